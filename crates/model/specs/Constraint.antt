@@ -1,0 +1,85 @@
+-- Bars 18 and 19: the constraints that a candidate does not meet.
+use Prim.Native.Nat.{ℕ, zero, suc, _/_, _%_}
+use mathlib.Core.Bool.{Bool, true, false, cond, not, _&&_, _||_}
+use mathlib.Core.List.{List, [], _∷_}
+use lib.ListN.{getD}
+use lib.Dec.{leb, ltb, eqb}
+use Rattle.model.specs.declared.Quantity.{Quantity}
+use Rattle.model.specs.declared.Quantity.the-variants.{Known, Unknown}
+use Rattle.model.specs.declared.Summary.{Summary}
+use Rattle.model.specs.declared.Neighbour.{Neighbour}
+use Rattle.model.specs.Number.{isSet, knownIf, satisfies, isUnknown, number, _when_, firstCase}
+use Rattle.model.specs.Object.{Object, bitO, Kind, unknown, lql, node, scalar, Node, nsa, ne, hp, Scalar, throughput, latency, etx, known, kind, isConstraint, isHp, role}
+
+-- ---- what is known of a neighbour
+
+abbrev pub isOverloaded : (flags : ℕ) → Bool
+isOverloaded f = isSet (f % 2)
+
+abbrev pub isAggregator : (flags : ℕ) → Bool
+isAggregator f = isSet (f / 2 % 2)
+
+abbrev pub energyIn : (flags energy : ℕ) → Quantity
+energyIn f e = knownIf (f / 4 % 2) e
+
+-- the link's value of a scalar metric
+unfoldable pub linkValue : Neighbour → Scalar → Quantity
+linkValue c throughput = knownIf (c .flags / 32 % 2) (c .throughput)
+linkValue c latency = knownIf (c .flags / 16 % 2) (c .latency)
+linkValue c etx = knownIf (c .flags / 8 % 2) (c .etx)
+
+-- ---- what a container tells the tests of its constraints
+
+-- the count of the HP metric, wherever it stands
+unfoldable pub hopCount : List Object → Quantity
+hopCount [] = Unknown
+hopCount (o ∷ os) = cond (isHp (kind o) && not (isConstraint (role o))) (Known (getD (o .body) 1 0)) (hopCount os)
+
+abbrev pub summary : List Object → Summary
+summary os = record { hops = hopCount os }
+
+-- ---- when a constraint is met
+
+-- NSA: aggregator bit set asks for an aggregating neighbour; overload bit set asks for one not overloaded
+abbrev pub metNsa : (aggregator overloaded : Bool) → (asked : ℕ) → Bool
+metNsa a o asked = (not (isSet (asked / 2 % 2)) || a) && (not (isSet (asked % 2)) || not o)
+
+-- NE, I=1: neighbour's type equals T and, if E=1, its energy is above E_E
+abbrev pub metIncluded : (sameType e : Bool) → Quantity → (limit : ℕ) → Bool
+metIncluded s e energy limit = s && (not e || satisfies (λ v. ltb limit v) energy)
+
+-- NE, I=0: not met exactly if the type equals T and (E=0, or energy is unknown, or below E_E)
+abbrev pub metExcluded : (sameType e : Bool) → Quantity → (limit : ℕ) → Bool
+metExcluded s e energy limit = not (s && (not e || isUnknown energy || satisfies (λ v. ltb v limit) energy))
+
+abbrev pub metNe : (nodetype : ℕ) → Quantity → (flags limit : ℕ) → Bool
+metNe t energy f limit =
+    cond (isSet (f / 8 % 2)) (metIncluded (eqb t (f / 2 % 4)) (isSet (f % 2)) energy limit) (metExcluded (eqb t (f / 2 % 4)) (isSet (f % 2)) energy limit)
+
+-- a constraint of a kind, by its body
+unfoldable pub met : Neighbour → Summary → Kind → List ℕ → Bool
+met c s unknown b = false
+met c s (node nsa) b = metNsa (isAggregator (c .flags)) (isOverloaded (c .flags)) (getD b 1 0)
+met c s (node ne) b = metNe (c .nodetype) (energyIn (c .flags) (c .energy)) (getD b 0 0) (getD b 1 0)
+met c s (node hp) b = satisfies (λ v. ltb v (getD b 1 0)) (s .hops)
+met c s (scalar throughput) b = satisfies (λ v. leb (number b) v) (linkValue c throughput)
+met c s (scalar latency) b = satisfies (λ v. leb v (number b)) (linkValue c latency)
+met c s (scalar etx) b = satisfies (λ v. leb v (number b)) (linkValue c etx)
+met c s lql b = leb 1 (c .lql) && leb (c .lql) (getD b 1 0 / 32)
+
+-- ---- bars 18 and 19
+
+-- C=1 is a constraint, mandatory if O=0
+abbrev pub mandatory : Object → Bool
+mandatory o = isConstraint (role o) && not (isSet (bitO o))
+
+-- bar 18: mandatory constraint of unknown type
+abbrev pub unknownMandatory : Object → Bool
+unknownMandatory o = mandatory o && not (known (kind o))
+
+-- bar 19: mandatory known constraint not met
+abbrev pub unmet : Neighbour → Summary → Object → Bool
+unmet c s o = mandatory o && known (kind o) && not (met c s (kind o) (o .body))
+
+unfoldable pub constraintBar : Neighbour → Summary → Object → ℕ
+constraintBar c s o = firstCase (18 when unknownMandatory o ∷ 19 when unmet c s o ∷ [])

@@ -1,0 +1,36 @@
+-- Document 01's cut: a container without the objects of unknown type and without TLVs.
+use Prim.Native.Nat.{ℕ}
+use mathlib.Core.Bool.{Bool, true, false, cond}
+use mathlib.Core.List.{List, [], _∷_}
+use mathlib.Core.Option.{Option, none, some}
+use lib.ListN.{length, take}
+use Rattle.model.specs.Object.{Object, object, split, join, known, kind, Role, constraint, recorded, aggregated, role}
+use Rattle.model.specs.Table.{row}
+
+-- NSA, NE and HP, as constraint or aggregated, keep the first two body bytes; every other body stays whole
+abbrev pub cutBody : Role → (tlvs : Bool) → List ℕ → List ℕ
+cutBody constraint t b = cond t (take 2 b) b
+cutBody recorded t b = b
+cutBody aggregated t b = cond t (take 2 b) b
+
+abbrev pub cutObject : Object → Object
+cutObject o = object (o .type) (o .flags) (o .mode) (cutBody (role o) (row (kind o) .tlvs) (o .body))
+
+abbrev pub keepIf {ℓ} : {A : Type ℓ} → Bool → A → List A → List A
+keepIf true x xs = x ∷ xs
+keepIf false x xs = xs
+
+-- an object of unknown type is dropped, header and body
+unfoldable pub cut : List Object → List Object
+cut [] = []
+cut (o ∷ os) = keepIf (known (kind o)) (cutObject o) (cut os)
+
+abbrev pub cutData : Option (List Object) → List ℕ
+cutData none = []
+cutData (some os) = join (cut os)
+
+-- byte 0 stays; D becomes the number of data bytes left
+unfoldable pub cutContainer : List ℕ → List ℕ
+cutContainer [] = []
+cutContainer (a ∷ []) = a ∷ []
+cutContainer (a ∷ d ∷ bs) = a ∷ length (cutData (split bs)) ∷ cutData (split bs)

@@ -1,0 +1,124 @@
+-- Demand 1: each number is given exactly when its condition holds and none before it in document 01's order does.
+use mathlib.Core.Path.{_≡_}
+use Prim.Native.Nat.{ℕ, _<_}
+use mathlib.Core.Bool.{Bool, true, false}
+use mathlib.Core.List.{List, [], _∷_, map}
+use mathlib.Core.Logic.{_↔_}
+use mathlib.Core.Option.{Option, none, some}
+use lib.ListN.{getElem?}
+use Rattle.model.specs.declared.Rank.{Rank}
+use Rattle.model.specs.declared.Summary.{Summary}
+use Rattle.model.specs.declared.Own.{Own}
+use Rattle.model.specs.declared.Neighbour.{Neighbour}
+use Rattle.model.specs.declared.Candidate.{Candidate}
+use Rattle.model.specs.declared.Verdict.{Verdict}
+use Rattle.model.specs.declared.Verdict.the-variants.{Unbarred, Barred}
+use Rattle.model.specs.Number.{anyOf}
+use Rattle.model.specs.Object.{Object, Standing, standings}
+use Rattle.model.specs.Reading.{noPlace, misframed, dataObjects, runsPast, malformed, repeated, misused}
+use Rattle.model.specs.Constraint.{summary, unknownMandatory, unmet}
+use Rattle.model.specs.Rank.{resulting, rankTooHigh, aboveLowest}
+use Rattle.model.specs.Verdict.{outOfRange, containerOf, outside}
+use Rattle.model.specs.Update.{unknownAggregated, notAllowed, noValue, fullCount, tooLong}
+use Rattle.model.specs.Choice.{badOwn, tooMany, currentPast, shortOutput}
+
+-- none of some conditions holds
+abbrev pub NoneOf : List Bool → Type 0
+NoneOf bs = anyOf (λ b. b) bs ≡ false
+
+-- a condition holds, and none of those before it does
+abbrev pub FirstToHold : (before : List Bool) → Bool → Type 0
+FirstToHold before b = NoneOf before × (b ≡ true)
+
+-- some element of a list has one of several properties
+abbrev pub someHas {ℓ} : {A : Type ℓ} → List (A → Bool) → List A → Bool
+someHas ts xs = anyOf (λ x. anyOf (λ t. t x) ts) xs
+
+-- the first element with a property of the group stands at an index; it has this property, and none of those of a lower number
+pub record FirstWith {A : Type 0} (xs : List A) (group lower : List (A → Bool)) (property : A → Bool) (index : ℕ) : Type 0 where
+  pub element : A
+  pub stands : getElem? xs index ≡ some element
+  pub has : FirstToHold (map (λ t. t element) lower) (property element)
+  pub clear : (i : ℕ) (x : A) → i < index → getElem? xs i ≡ some x → anyOf (λ t. t x) group ≡ false
+
+-- ---- refusals 1 to 4
+
+-- `given`: the refusal that a call reports
+pub record RefusalExact (own : Own) (count room given : ℕ) : Type 0 where
+  pub refusal-1 : (given ≡ 1) ↔ FirstToHold [] (badOwn own)
+  pub refusal-2 : (given ≡ 2) ↔ FirstToHold (badOwn own ∷ []) (tooMany count)
+  pub refusal-3 : (given ≡ 3) ↔ FirstToHold (badOwn own ∷ tooMany count ∷ []) (currentPast own count)
+  pub refusal-4 : (given ≡ 4) ↔ FirstToHold (badOwn own ∷ tooMany count ∷ currentPast own count ∷ []) (shortOutput room)
+  pub unrefused : (given ≡ 0) ↔ NoneOf (badOwn own ∷ tooMany count ∷ currentPast own count ∷ shortOutput room ∷ [])
+
+-- ---- bars 11 to 21
+
+abbrev pub listOf : Option (List Object) → List Object
+listOf none = []
+listOf (some os) = os
+
+-- the objects of a container that does not run past its end
+abbrev pub objectsIn : List ℕ → List Object
+objectsIn bs = listOf (dataObjects bs)
+
+-- the conditions at an object: bars 15 to 17, and bars 18 and 19
+abbrev pub objectBars : List (Standing → Bool)
+objectBars = malformed ∷ repeated ∷ misused ∷ []
+
+abbrev pub constraintBars : Neighbour → Summary → List (Object → Bool)
+constraintBars c s = unknownMandatory ∷ unmet c s ∷ []
+
+-- the conditions of bars 11 to 14; of 11 to 17; of 11 to 19
+abbrev pub barsTo14 : (lent : List ℕ) → Candidate → List Bool
+barsTo14 lent c = outOfRange (c .neighbour) ∷ outside lent c ∷ misframed (containerOf lent c) ∷ runsPast (containerOf lent c) ∷ []
+
+abbrev pub barsTo17 : (lent : List ℕ) → Candidate → List Bool
+barsTo17 lent c = someHas objectBars (standings [] (objectsIn (containerOf lent c))) ∷ barsTo14 lent c
+
+abbrev pub barsTo19 : (lent : List ℕ) → Candidate → List Bool
+barsTo19 lent c =
+    someHas (constraintBars (c .neighbour) (summary (objectsIn (containerOf lent c)))) (objectsIn (containerOf lent c)) ∷ barsTo17 lent c
+
+-- bars 15 to 17 at the object of an index, and bars 18 and 19
+abbrev pub BarAt : (lent : List ℕ) → Candidate → (lower : List (Standing → Bool)) → (Standing → Bool) → (place : ℕ) → Type 0
+BarAt lent c lower bar place = NoneOf (barsTo14 lent c) × FirstWith (standings [] (objectsIn (containerOf lent c))) objectBars lower bar place
+
+abbrev pub ConstraintAt : (lent : List ℕ) → Candidate → (lower : List (Object → Bool)) → (Object → Bool) → (place : ℕ) → Type 0
+ConstraintAt lent c lower bar place =
+    NoneOf (barsTo17 lent c)
+    × FirstWith (objectsIn (containerOf lent c)) (constraintBars (c .neighbour) (summary (objectsIn (containerOf lent c)))) lower bar place
+
+-- `given`: the verdict on a candidate
+pub record BarExact (own : Own) (lent : List ℕ) (c : Candidate) (given : Verdict) : Type 0 where
+  pub bar-11 : (given ≡ Barred 11 noPlace) ↔ FirstToHold [] (outOfRange (c .neighbour))
+  pub bar-12 : (given ≡ Barred 12 noPlace) ↔ FirstToHold (outOfRange (c .neighbour) ∷ []) (outside lent c)
+  pub bar-13 : (given ≡ Barred 13 noPlace) ↔ FirstToHold (outOfRange (c .neighbour) ∷ outside lent c ∷ []) (misframed (containerOf lent c))
+  pub bar-14 : (given ≡ Barred 14 noPlace)
+      ↔ FirstToHold (outOfRange (c .neighbour) ∷ outside lent c ∷ misframed (containerOf lent c) ∷ []) (runsPast (containerOf lent c))
+  pub bar-15 : (place : ℕ) → (given ≡ Barred 15 place) ↔ BarAt lent c [] malformed place
+  pub bar-16 : (place : ℕ) → (given ≡ Barred 16 place) ↔ BarAt lent c (malformed ∷ []) repeated place
+  pub bar-17 : (place : ℕ) → (given ≡ Barred 17 place) ↔ BarAt lent c (malformed ∷ repeated ∷ []) misused place
+  pub bar-18 : (place : ℕ) → (given ≡ Barred 18 place) ↔ ConstraintAt lent c [] unknownMandatory place
+  pub bar-19 : (place : ℕ) → (given ≡ Barred 19 place)
+      ↔ ConstraintAt lent c (unknownMandatory ∷ []) (unmet (c .neighbour) (summary (objectsIn (containerOf lent c)))) place
+  pub bar-20 : (given ≡ Barred 20 noPlace) ↔ FirstToHold (barsTo19 lent c) (rankTooHigh own (c .neighbour))
+  pub bar-21 : (given ≡ Barred 21 noPlace) ↔ FirstToHold (rankTooHigh own (c .neighbour) ∷ barsTo19 lent c) (aboveLowest own (c .neighbour))
+  pub unbarred : (r : Rank) → (given ≡ Unbarred r)
+      ↔ (NoneOf (aboveLowest own (c .neighbour) ∷ rankTooHigh own (c .neighbour) ∷ barsTo19 lent c) × (r ≡ record { 0 = resulting own (c .neighbour) }))
+
+-- ---- leaf answers 31 to 35
+
+abbrev pub leafTests : Own → Neighbour → List (Object → Bool)
+leafTests own c = unknownAggregated ∷ notAllowed ∷ noValue own c ∷ fullCount ∷ []
+
+abbrev pub LeafAt : Own → Neighbour → List Object → (lower : List (Object → Bool)) → (Object → Bool) → Type 0
+LeafAt own c os lower leaf = (place : ℕ) × FirstWith os (leafTests own c) lower leaf place
+
+-- `given`: the leaf number that a call reports for a parent whose container holds these objects
+pub record LeafExact (own : Own) (c : Neighbour) (os : List Object) (given : ℕ) : Type 0 where
+  pub leaf-31 : (given ≡ 31) ↔ LeafAt own c os [] unknownAggregated
+  pub leaf-32 : (given ≡ 32) ↔ LeafAt own c os (unknownAggregated ∷ []) notAllowed
+  pub leaf-33 : (given ≡ 33) ↔ LeafAt own c os (unknownAggregated ∷ notAllowed ∷ []) (noValue own c)
+  pub leaf-34 : (given ≡ 34) ↔ LeafAt own c os (unknownAggregated ∷ notAllowed ∷ noValue own c ∷ []) fullCount
+  pub leaf-35 : (given ≡ 35) ↔ FirstToHold (someHas (leafTests own c) os ∷ []) (tooLong own c os)
+  pub no-leaf : (given ≡ 0) ↔ NoneOf (someHas (leafTests own c) os ∷ tooLong own c os ∷ [])

@@ -1,0 +1,42 @@
+-- Demand 2: the written container reads back as the received objects, each updated for this hop, no sum wrapped.
+use mathlib.Core.Path.{_≡_}
+use Prim.Native.Nat.{ℕ, _+_, _≤_, _<_, min, max}
+use mathlib.Core.List.{List, [], _∷_}
+use lib.ListN.{length, getD}
+use Rattle.model.specs.declared.Quantity.{Quantity}
+use Rattle.model.specs.declared.Quantity.the-variants.{Known, Unknown}
+use Rattle.model.specs.declared.Own.{Own}
+use Rattle.model.specs.declared.Neighbour.{Neighbour}
+use Rattle.model.specs.declared.Candidate.{Candidate}
+use Rattle.model.specs.Number.{number}
+use Rattle.model.specs.Object.{Object, fieldA, Scalar, scalar, node, hp, kind, aggregated, role}
+use Rattle.model.specs.Reading.{wellFormed, reading}
+use Rattle.model.specs.Constraint.{linkValue}
+use Rattle.model.specs.Update.{mostOf, updateObject, update}
+use Rattle.model.specs.Choice.{Result}
+use Rattle.model.specs.Selection.{Parented}
+use Rattle.model.specs.Untouched.{PassedOn, passedOn}
+
+-- the container passed on is well-formed, and holds the parent's objects, each updated
+abbrev pub ReadsBack : Own → List Candidate → (lent : List ℕ) → Result → Type 0
+ReadsBack own cs lent r =
+    PassedOn r → (p : Parented own cs lent (r .answer)) → reading (passedOn r) ≡ wellFormed (update own (p .candidate .neighbour) (p .objects))
+
+-- a sum that stops at the field's maximum, and below it is the whole-number sum
+pub record Sum (most x v sum : ℕ) : Type 0 where
+  pub below : x + v ≤ most → sum ≡ x + v
+  pub above : most < x + v → sum ≡ most
+
+-- an aggregated scalar metric with a known link value v, received as x and sent on as y
+pub record Aggregates (own : Own) (c : Neighbour) (o : Object) (s : Scalar) (v : ℕ) : Type 0 where
+  pub add : fieldA o ≡ 0 → Sum (mostOf s) (number (o .body)) v (number (updateObject own c o .body))
+  pub larger : fieldA o ≡ 1 → number (o .body) ≤ mostOf s → v ≤ mostOf s → number (updateObject own c o .body) ≡ max (number (o .body)) v
+  pub smaller : fieldA o ≡ 2 → number (o .body) ≤ mostOf s → v ≤ mostOf s → number (updateObject own c o .body) ≡ min (number (o .body)) v
+
+abbrev pub NoSumWraps : Type 0
+NoSumWraps = (own : Own) (c : Neighbour) (o : Object) (s : Scalar) (v : ℕ) → kind o ≡ scalar s → role o ≡ aggregated → linkValue c s ≡ Known v → Aggregates own c o s v
+
+-- the HP metric's count rises by one, up to 255
+abbrev pub CountsHop : Type 0
+CountsHop = (own : Own) (c : Neighbour) (o : Object) → kind o ≡ node hp → role o ≡ aggregated → fieldA o ≡ 0 → 2 ≤ length (o .body)
+    → Sum 255 (getD (o .body) 1 0) 1 (getD (updateObject own c o .body) 1 0)

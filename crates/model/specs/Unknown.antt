@@ -1,0 +1,118 @@
+-- Demand 3: what is unknown changes no answer, but that an unknown mandatory constraint bars; what is passed on keeps it.
+use mathlib.Core.Path.{_≡_}
+use Prim.Native.Nat.{ℕ, zero, suc, _/_, _%_, _<_}
+use mathlib.Core.Bool.{Bool, true, false, not, _||_}
+use mathlib.Core.List.{List, [], _∷_}
+use mathlib.Core.Option.{Option, none, some}
+use lib.ListN.{length, drop, getD, getElem?}
+use lib.Dec.{eqb}
+use Rattle.model.specs.declared.Own.{Own}
+use Rattle.model.specs.declared.Candidate.{Candidate}
+use Rattle.model.specs.declared.Answer.{Answer}
+use Rattle.model.specs.Number.{anyOf}
+use Rattle.model.specs.Object.{Object, bitP, bitC, bitO, bitR, fieldA, fieldPrec, split, known, kind, Role, constraint, recorded, aggregated, role}
+use Rattle.model.specs.Table.{row}
+use Rattle.model.specs.Reading.{wellFormed, reading}
+use Rattle.model.specs.Constraint.{unknownMandatory}
+use Rattle.model.specs.Rank.{resulting}
+use Rattle.model.specs.Verdict.{containerOf, outside}
+use Rattle.model.specs.Choice.{Result, call}
+use Rattle.model.specs.Cut.{cutContainer}
+use Rattle.model.specs.Exact.{objectsIn}
+use Rattle.model.specs.Untouched.{PassedOn, passedOn}
+
+-- two lists of one length whose elements at each index are related
+pub data Each {A : Type 0} (R : A → A → Type 0) : List A → List A → Type 0 where
+  nil : Each R [] []
+  cons : {a b : A} {s t : List A} → R a b → Each R s t → Each R (a ∷ s) (b ∷ t)
+
+-- ---- the two calls
+
+-- a candidate whose container lies in the lent run and is well-formed
+pub record WellFormed (lent : List ℕ) (c : Candidate) : Type 0 where
+  pub inside : outside lent c ≡ false
+  pub objects : List Object
+  pub read : reading (containerOf lent c) ≡ wellFormed objects
+
+-- the candidate of the second call: its container is the first's, cut, anywhere in the second lent run; all other numbers stay
+pub record CutBeside (lent lent′ : List ℕ) (c c′ : Candidate) : Type 0 where
+  pub whole : WellFormed lent c
+  pub numbers : c′ .neighbour ≡ c .neighbour
+  pub inside : outside lent′ c′ ≡ false
+  pub cut : containerOf lent′ c′ ≡ cutContainer (containerOf lent c)
+
+-- ---- places
+
+-- header bits of an unknown object as received and as passed on: all kept, except that reserved bits are cleared, O if C=0,
+-- R if C=1, and P is set if it is recorded
+pub data Header (o p : Object) : Role → Type 0 where
+  ofConstraint : bitP p ≡ bitP o → bitO p ≡ bitO o → bitR p ≡ 0 → Header o p constraint
+  ofRecorded : bitP p ≡ 1 → bitO p ≡ 0 → bitR p ≡ bitR o → Header o p recorded
+  ofAggregated : bitP p ≡ bitP o → bitO p ≡ 0 → bitR p ≡ bitR o → Header o p aggregated
+
+-- an unknown object as received and as passed on
+pub record Kept (o p : Object) : Type 0 where
+  pub body : p .body ≡ o .body
+  pub reserved : p .flags / 8 ≡ 0
+  pub sameC : bitC p ≡ bitC o
+  pub sameA : fieldA p ≡ fieldA o
+  pub samePrec : fieldPrec p ≡ fieldPrec o
+  pub header : Header o p (role o)
+
+-- an object as received and as passed on at the same index: TLVs stand after the first two body bytes, every byte as received
+pub record Placed (o p : Object) : Type 0 where
+  pub type : p .type ≡ o .type
+  pub unknown : known (kind o) ≡ false → Kept o p
+  pub tlvs : row (kind o) .tlvs ≡ true → (role o ≡ recorded → ⊥) → drop 2 (p .body) ≡ drop 2 (o .body)
+
+-- the container passed on, and the parent's
+pub record KeepsPlaces (cs : List Candidate) (lent : List ℕ) (r : Result) : Type 0 where
+  pub parent : Candidate
+  pub stands : getElem? cs (r .answer .parent) ≡ some parent
+  pub received : List Object
+  pub read : reading (containerOf lent parent) ≡ wellFormed received
+  pub sent : List Object
+  pub sends : split (drop 2 (passedOn r)) ≡ some sent
+  pub each : Each Placed received sent
+
+-- ---- answers
+
+-- document 01's word: a candidate is barred if its verdict is not 10
+abbrev pub barredAt : Result → (position : ℕ) → Bool
+barredAt r i = not (eqb (getD (r .answer .verdicts) i 0) 10)
+
+-- a candidate's container holds an unknown mandatory constraint
+abbrev pub holdsUnknown : (lent : List ℕ) → Candidate → Bool
+holdsUnknown lent c = anyOf unknownMandatory (objectsIn (containerOf lent c))
+
+pub record SameAnswers (a a′ : Answer) : Type 0 where
+  pub parent : a .parent ≡ a′ .parent
+  pub rank : a .rank ≡ a′ .rank
+  pub verdicts : a .verdicts ≡ a′ .verdicts
+  pub bits : a .bits ≡ a′ .bits
+  pub count : a .count ≡ a′ .count
+
+-- ---- demand 3
+
+-- `r` is the first call's result, over `cs` and `lent`; `r′` the second's, over the cut containers
+pub record Demand3 (own : Own) (cs cs′ : List Candidate) (lent : List ℕ) (r r′ : Result) : Type 0 where
+  -- a candidate is barred in the first call exactly when it is barred in the second or its container holds an unknown mandatory constraint
+  pub bars : (i : ℕ) (c : Candidate) → getElem? cs i ≡ some c → barredAt r i ≡ barredAt r′ i || holdsUnknown lent c
+  -- its resulting rank is the same in both
+  pub ranks : Each (λ c c′. resulting own (c .neighbour) ≡ resulting own (c′ .neighbour)) cs cs′
+  -- if no candidate's container holds such a constraint, the answers are the same; if the first passes a container on, so does the
+  -- second, and the first's container, once cut, equals the second's byte for byte
+  pub same : anyOf (holdsUnknown lent) cs ≡ false → SameAnswers (r .answer) (r′ .answer)
+  pub passes : anyOf (holdsUnknown lent) cs ≡ false → PassedOn r → PassedOn r′ × (cutContainer (passedOn r) ≡ passedOn r′)
+  -- whenever the first passes a container on, the unknown objects and TLVs keep their places
+  pub places : PassedOn r → KeepsPlaces cs lent r
+
+-- for every call that is not refused and every second call beside it
+abbrev pub Demand3Holds : Type 0
+Demand3Holds = (own : Own) (cs cs′ : List Candidate) (lent lent′ out out′ : List ℕ) → Each (CutBeside lent lent′) cs cs′
+    → call own cs lent out .answer .refusal ≡ 0 → length out′ ≡ length out → Demand3 own cs cs′ lent (call own cs lent out) (call own cs′ lent′ out′)
+
+-- well-formed containers always have such a second call
+abbrev pub SecondCallExists : Type 0
+SecondCallExists = (cs : List Candidate) (lent : List ℕ) → ((i : ℕ) (c : Candidate) → getElem? cs i ≡ some c → WellFormed lent c)
+    → (cs′ : List Candidate) × (lent′ : List ℕ) × Each (CutBeside lent lent′) cs cs′

@@ -1,0 +1,28 @@
+-- Demand 1: what a call leaves of the lent output.
+use mathlib.Core.Path.{_≡_}
+use Prim.Native.Nat.{ℕ, _+_}
+use mathlib.Core.Bool.{Bool, true, false}
+use mathlib.Core.List.{List, [], _∷_, _++_}
+use lib.ListN.{length, take, drop}
+use Rattle.model.specs.Choice.{Result}
+use Rattle.model.specs.Selection.{hasParent}
+
+-- document 01's word: a container is passed on if there is a parent and the leaf number is 0
+pub record PassedOn (r : Result) : Type 0 where
+  pub unrefused : r .answer .refusal ≡ 0
+  pub parent : hasParent (r .answer) ≡ true
+  pub noLeaf : r .answer .leaf ≡ 0
+
+-- it is the output bytes up to the reported length
+abbrev pub passedOn : Result → List ℕ
+passedOn r = take (r .answer .length) (r .output)
+
+pub record Untouched (out : List ℕ) (r : Result) : Type 0 where
+  -- a refused call, a call with no candidate unbarred and a leaf answer leave the output as it was
+  pub refused : (r .answer .refusal ≡ 0 → ⊥) → (r .output ≡ out) × (r .answer .length ≡ 0)
+  pub nobody : hasParent (r .answer) ≡ false → (r .output ≡ out) × (r .answer .length ≡ 0)
+  pub leaf : (r .answer .leaf ≡ 0 → ⊥) → (r .output ≡ out) × (r .answer .length ≡ 0)
+  -- otherwise only the first 2 + D' bytes change, and are a container with D' bytes of data
+  pub written : PassedOn r → (data′ : List ℕ) × (r .answer .length ≡ 2 + length data′) × (passedOn r ≡ 2 ∷ length data′ ∷ data′)
+  pub rest : drop (r .answer .length) (r .output) ≡ drop (r .answer .length) out
+  pub size : length (r .output) ≡ length out

@@ -1,0 +1,60 @@
+-- The verdict on a candidate: bars 11 to 21 in document 01's order.
+use Prim.Native.Nat.{ℕ, zero, suc, _+_}
+use mathlib.Core.Bool.{Bool, true, false, cond, _||_}
+use mathlib.Core.List.{List, [], _∷_}
+use lib.ListN.{length, take, drop}
+use lib.Dec.{ltb}
+use Rattle.model.specs.declared.Own.{Own}
+use Rattle.model.specs.declared.Neighbour.{Neighbour}
+use Rattle.model.specs.declared.Candidate.{Candidate}
+use Rattle.model.specs.declared.Verdict.{Verdict}
+use Rattle.model.specs.declared.Verdict.the-variants.{Unbarred, Barred}
+use Rattle.model.specs.Number.{firstOf, indexOf, _when_, firstCase}
+use Rattle.model.specs.Object.{Object}
+use Rattle.model.specs.Reading.{noPlace, Reading, refused, wellFormed, reading}
+use Rattle.model.specs.Constraint.{summary, constraintBar}
+use Rattle.model.specs.Rank.{resulting, rankTooHigh, aboveLowest}
+
+-- bar 11: Sp outside 1..9, Rf outside 1..4, Sr above 5, LQL above 7 or type above 3
+unfoldable pub outOfRange : Neighbour → Bool
+outOfRange c = ltb (c .sp) 1 || ltb 9 (c .sp) || ltb (c .rf) 1 || ltb 4 (c .rf) || ltb 5 (c .sr) || ltb 7 (c .lql) || ltb 3 (c .nodetype)
+
+-- a candidate's container in the lent run
+abbrev pub containerOf : (lent : List ℕ) → Candidate → List ℕ
+containerOf lent c = take (c .length) (drop (c .start) lent)
+
+-- bar 12: container not inside the lent bytes
+abbrev pub outside : (lent : List ℕ) → Candidate → Bool
+outside lent c = ltb (length lent) (c .start + c .length)
+
+-- bars 20 and 21
+unfoldable pub rankBar : Own → Neighbour → ℕ
+rankBar own c = firstCase (20 when rankTooHigh own c ∷ 21 when aboveLowest own c ∷ [])
+
+abbrev pub judgeRank : Own → Neighbour → (bar : ℕ) → Verdict
+judgeRank own c zero = Unbarred (record { 0 = resulting own c })
+judgeRank own c (suc n) = Barred (suc n) noPlace
+
+abbrev pub judgeObjects : Own → Neighbour → (bar place : ℕ) → Verdict
+judgeObjects own c zero p = judgeRank own c (rankBar own c)
+judgeObjects own c (suc n) p = Barred (suc n) p
+
+abbrev pub judgeReading : Own → Neighbour → Reading → Verdict
+judgeReading own c (refused n p) = Barred n p
+judgeReading own c (wellFormed os) = judgeObjects own c (firstOf (constraintBar c (summary os)) os) (indexOf (constraintBar c (summary os)) os)
+
+unfoldable pub verdict : Own → (lent : List ℕ) → Candidate → Verdict
+verdict own lent c = cond (outOfRange (c .neighbour)) (Barred 11 noPlace) (cond (outside lent c) (Barred 12 noPlace) (judgeReading own (c .neighbour) (reading (containerOf lent c))))
+
+-- the number of a verdict: 10 for an unbarred candidate
+abbrev pub numberOf : Verdict → ℕ
+numberOf (Unbarred r) = 10
+numberOf (Barred n p) = n
+
+abbrev pub placeOf : Verdict → ℕ
+placeOf (Unbarred r) = noPlace
+placeOf (Barred n p) = p
+
+abbrev pub isUnbarred : Verdict → Bool
+isUnbarred (Unbarred r) = true
+isUnbarred (Barred n p) = false

@@ -1,0 +1,91 @@
+// The plain data that every crate shares; crates/model/specs says what is true of it.
+
+// A rank (RFC 6550): 65535 is the infinite rank, which no node advertises.
+#[repr(C)]
+pub struct Rank(pub u16);
+
+// A number of rank units: one unit is one MinHopRankIncrease.
+pub struct Units(pub u32);
+
+// A number that is known, or is not.
+pub enum Quantity {
+    Known(u32),
+    Unknown,
+}
+
+// The node's own numbers. Flags: 0x01 overloaded, 0x02 aggregator, 0x04 energy is known, 0x08 lowest is given, 0x10 current is given.
+#[repr(C)]
+pub struct Own {
+    // MinHopRankIncrease
+    pub minhop: u16,
+    // DAGMaxRankIncrease
+    pub maxincrease: u16,
+    // L, the lowest rank already advertised
+    pub lowest: Rank,
+    pub nodetype: u8,
+    pub flags: u8,
+    pub energy: u8,
+    // the current parent's position
+    pub current: usize,
+}
+
+// What is known of a neighbour and the link to it. Flags: 0x01 overloaded, 0x02 aggregator, 0x04 energy is known,
+// 0x08 etx is known, 0x10 latency is known, 0x20 throughput is known.
+#[repr(C)]
+pub struct Neighbour {
+    // the rank it advertised
+    pub rank: Rank,
+    // step of rank, rank factor and stretch of rank (RFC 6552)
+    pub sp: u8,
+    pub rf: u8,
+    pub sr: u8,
+    pub nodetype: u8,
+    pub flags: u8,
+    pub energy: u8,
+    pub lql: u8,
+    // ETX times 128
+    pub etx: u16,
+    // microseconds
+    pub latency: u32,
+    // bytes per second
+    pub throughput: u32,
+}
+
+// A candidate: a neighbour, and where its container stands in the lent run.
+#[repr(C)]
+pub struct Candidate {
+    pub neighbour: Neighbour,
+    pub start: usize,
+    pub length: usize,
+}
+
+// What a container tells the tests of its own constraints: the count of its HP metric.
+pub struct Summary {
+    pub hops: Quantity,
+}
+
+// Document 01's verdict: unbarred with the resulting rank, or barred by a number, at the object of index `place`; 255 for none.
+pub enum Verdict {
+    Unbarred(Rank),
+    Barred { number: u8, place: u8 },
+}
+
+// The preferred parent, where there is one.
+pub enum Choice {
+    Nobody,
+    Parent { position: usize, rank: Rank },
+}
+
+// The answer of a call. No parent is 255, no rank is 65535, no object's place is 255.
+#[repr(C)]
+pub struct Answer {
+    pub refusal: u8,
+    pub parent: u8,
+    pub rank: Rank,
+    pub verdicts: [u8; 16],
+    pub places: [u8; 16],
+    pub bits: u16,
+    pub count: u8,
+    pub leaf: u8,
+    pub length: u16,
+}
