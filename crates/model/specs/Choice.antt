@@ -16,7 +16,7 @@ use Rattle.model.specs.declared.Verdict.the-variants.{Unbarred, Barred}
 use Rattle.model.specs.declared.Choice.{Choice}
 use Rattle.model.specs.declared.Choice.the-variants.{Nobody, Parent}
 use Rattle.model.specs.declared.Answer.{Answer}
-use Rattle.model.specs.Number.{knownIf, satisfies, _when_, firstCase}
+use Rattle.model.specs.Number.{knownIf, satisfies, Case, _when_, firstCase}
 use Rattle.model.specs.Object.{Object, container}
 use Rattle.model.specs.Reading.{noPlace, Reading, refused, wellFormed, reading}
 use Rattle.model.specs.Rank.{infinite}
@@ -45,8 +45,12 @@ currentPast own n = satisfies (λ p. leb n p) (currentOf own)
 abbrev pub shortOutput : (room : ℕ) → Bool
 shortOutput m = ltb m 257
 
+abbrev pub refusalCases : Own → (count room : ℕ) → List Case
+refusalCases own n m = 1 when badOwn own ∷ 2 when tooMany n ∷ 3 when currentPast own n ∷ 4 when shortOutput m ∷ []
+
+-- the whole-call refusal; 0 for none
 unfoldable pub refusal : Own → (count room : ℕ) → ℕ
-refusal own n m = firstCase (1 when badOwn own ∷ 2 when tooMany n ∷ 3 when currentPast own n ∷ 4 when shortOutput m ∷ [])
+refusal own n m = firstCase (refusalCases own n m)
 
 -- ---- the choice
 

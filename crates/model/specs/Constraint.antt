@@ -8,7 +8,7 @@ use Rattle.model.specs.declared.Quantity.{Quantity}
 use Rattle.model.specs.declared.Quantity.the-variants.{Known, Unknown}
 use Rattle.model.specs.declared.Summary.{Summary}
 use Rattle.model.specs.declared.Neighbour.{Neighbour}
-use Rattle.model.specs.Number.{isSet, knownIf, satisfies, isUnknown, number, _when_, firstCase}
+use Rattle.model.specs.Number.{isSet, knownIf, satisfies, isUnknown, number, Case, _when_, firstCase}
 use Rattle.model.specs.Object.{Object, bitO, Kind, unknown, lql, node, scalar, Node, nsa, ne, hp, Scalar, throughput, latency, etx, known, kind, isConstraint, isHp, role}
 
 -- ---- what is known of a neighbour
@@ -81,5 +81,9 @@ unknownMandatory o = mandatory o && not (known (kind o))
 abbrev pub unmet : Neighbour → Summary → Object → Bool
 unmet c s o = mandatory o && known (kind o) && not (met c s (kind o) (o .body))
 
+abbrev pub constraintCases : Neighbour → Summary → Object → List Case
+constraintCases c s o = 18 when unknownMandatory o ∷ 19 when unmet c s o ∷ []
+
+-- the lower of 18 and 19 at an object
 unfoldable pub constraintBar : Neighbour → Summary → Object → ℕ
-constraintBar c s o = firstCase (18 when unknownMandatory o ∷ 19 when unmet c s o ∷ [])
+constraintBar c s o = firstCase (constraintCases c s o)

@@ -2,7 +2,7 @@
 use mathlib.Core.Path.{_≡_}
 use Prim.Native.Nat.{ℕ, _<_}
 use mathlib.Core.Bool.{Bool, true, false}
-use mathlib.Core.List.{List, [], _∷_, map}
+use mathlib.Core.List.{List, [], _∷_, _++_, map}
 use mathlib.Core.Logic.{_↔_}
 use mathlib.Core.Option.{Option, none, some}
 use lib.ListN.{getElem?}
@@ -73,11 +73,11 @@ abbrev pub barsTo14 : (lent : List ℕ) → Candidate → List Bool
 barsTo14 lent c = outOfRange (c .neighbour) ∷ outside lent c ∷ misframed (containerOf lent c) ∷ runsPast (containerOf lent c) ∷ []
 
 abbrev pub barsTo17 : (lent : List ℕ) → Candidate → List Bool
-barsTo17 lent c = someHas objectBars (standings [] (objectsIn (containerOf lent c))) ∷ barsTo14 lent c
+barsTo17 lent c = barsTo14 lent c ++ (someHas objectBars (standings [] (objectsIn (containerOf lent c))) ∷ [])
 
 abbrev pub barsTo19 : (lent : List ℕ) → Candidate → List Bool
 barsTo19 lent c =
-    someHas (constraintBars (c .neighbour) (summary (objectsIn (containerOf lent c)))) (objectsIn (containerOf lent c)) ∷ barsTo17 lent c
+    barsTo17 lent c ++ (someHas (constraintBars (c .neighbour) (summary (objectsIn (containerOf lent c)))) (objectsIn (containerOf lent c)) ∷ [])
 
 -- bars 15 to 17 at the object of an index, and bars 18 and 19
 abbrev pub BarAt : (lent : List ℕ) → Candidate → (lower : List (Standing → Bool)) → (Standing → Bool) → (place : ℕ) → Type 0
@@ -102,9 +102,9 @@ pub record BarExact (own : Own) (lent : List ℕ) (c : Candidate) (given : Verdi
   pub bar-19 : (place : ℕ) → (given ≡ Barred 19 place)
       ↔ ConstraintAt lent c (unknownMandatory ∷ []) (unmet (c .neighbour) (summary (objectsIn (containerOf lent c)))) place
   pub bar-20 : (given ≡ Barred 20 noPlace) ↔ FirstToHold (barsTo19 lent c) (rankTooHigh own (c .neighbour))
-  pub bar-21 : (given ≡ Barred 21 noPlace) ↔ FirstToHold (rankTooHigh own (c .neighbour) ∷ barsTo19 lent c) (aboveLowest own (c .neighbour))
+  pub bar-21 : (given ≡ Barred 21 noPlace) ↔ FirstToHold (barsTo19 lent c ++ (rankTooHigh own (c .neighbour) ∷ [])) (aboveLowest own (c .neighbour))
   pub unbarred : (r : Rank) → (given ≡ Unbarred r)
-      ↔ (NoneOf (aboveLowest own (c .neighbour) ∷ rankTooHigh own (c .neighbour) ∷ barsTo19 lent c) × (r ≡ record { 0 = resulting own (c .neighbour) }))
+      ↔ (NoneOf (barsTo19 lent c ++ (rankTooHigh own (c .neighbour) ∷ aboveLowest own (c .neighbour) ∷ [])) × (r ≡ record { 0 = resulting own (c .neighbour) }))
 
 -- ---- leaf answers 31 to 35
 

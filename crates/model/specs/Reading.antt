@@ -5,7 +5,7 @@ use mathlib.Core.List.{List, [], _∷_}
 use mathlib.Core.Option.{Option, none, some}
 use lib.ListN.{length, drop, getD}
 use lib.Dec.{leb, ltb, eqb}
-use Rattle.model.specs.Number.{anyOf, _when_, firstCase, firstOf, indexOf}
+use Rattle.model.specs.Number.{anyOf, Case, _when_, firstCase, firstOf, indexOf}
 use Rattle.model.specs.Object.{Object, bitC, split, Standing, standings, Kind, known, kind, Role, constraint, recorded, aggregated, role}
 use Rattle.model.specs.Table.{Row, row}
 
@@ -81,9 +81,12 @@ sameUse o e = eqb (e .type) (o .type) && eqb (bitC e) (bitC o)
 abbrev pub repeated : Standing → Bool
 repeated s = known (kind (s .object)) && anyOf (sameUse (s .object)) (s .earlier)
 
+abbrev pub objectCases : Standing → List Case
+objectCases s = 15 when malformed s ∷ 16 when repeated s ∷ 17 when misused s ∷ []
+
 -- the lowest of 15, 16 and 17 at an object
 unfoldable pub objectBar : Standing → ℕ
-objectBar s = firstCase (15 when malformed s ∷ 16 when repeated s ∷ 17 when misused s ∷ [])
+objectBar s = firstCase (objectCases s)
 
 -- a container that is read: refused by a bar, with the index of its object; or well-formed (document 01's word), with its objects
 pub data Reading : Type 0 where

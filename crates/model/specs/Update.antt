@@ -8,7 +8,7 @@ use Rattle.model.specs.declared.Quantity.{Quantity}
 use Rattle.model.specs.declared.Quantity.the-variants.{Known, Unknown}
 use Rattle.model.specs.declared.Own.{Own}
 use Rattle.model.specs.declared.Neighbour.{Neighbour}
-use Rattle.model.specs.Number.{isSet, isUnknown, number, bigEndian, _when_, firstCase, first, firstOf}
+use Rattle.model.specs.Number.{isSet, isUnknown, number, bigEndian, Case, _when_, firstCase, first, firstOf}
 use Rattle.model.specs.Object.{Object, object, bitP, fieldA, join, Kind, unknown, lql, node, scalar, Node, nsa, ne, hp, Scalar, throughput, latency, etx, known, kind, Role, constraint, recorded, aggregated, role, isAggregated, isConstraint, isHp}
 use Rattle.model.specs.Table.{row, allowed}
 use Rattle.model.specs.Constraint.{energyIn, linkValue}
@@ -181,9 +181,12 @@ noValue own c o = isAggregated (role o) && (isUnknown (localValue own c (kind o)
 abbrev pub fullCount : Object → Bool
 fullCount o = not (isConstraint (role o)) && isHp (kind o) && eqb (getD (o .body) 1 0) 255
 
+abbrev pub leafCases : Own → Neighbour → Object → List Case
+leafCases own c o = 31 when unknownAggregated o ∷ 32 when notAllowed o ∷ 33 when noValue own c o ∷ 34 when fullCount o ∷ []
+
 -- the lowest of 31 to 34 at an object
 unfoldable pub objectLeaf : Own → Neighbour → Object → ℕ
-objectLeaf own c o = firstCase (31 when unknownAggregated o ∷ 32 when notAllowed o ∷ 33 when noValue own c o ∷ 34 when fullCount o ∷ [])
+objectLeaf own c o = firstCase (leafCases own c o)
 
 -- 35: outgoing data would exceed 255 bytes
 unfoldable pub tooLong : Own → Neighbour → List Object → Bool

@@ -9,7 +9,7 @@ use Rattle.model.specs.declared.Neighbour.{Neighbour}
 use Rattle.model.specs.declared.Candidate.{Candidate}
 use Rattle.model.specs.declared.Verdict.{Verdict}
 use Rattle.model.specs.declared.Verdict.the-variants.{Unbarred, Barred}
-use Rattle.model.specs.Number.{firstOf, indexOf, _when_, firstCase}
+use Rattle.model.specs.Number.{firstOf, indexOf, Case, _when_, firstCase}
 use Rattle.model.specs.Object.{Object}
 use Rattle.model.specs.Reading.{noPlace, Reading, refused, wellFormed, reading}
 use Rattle.model.specs.Constraint.{summary, constraintBar}
@@ -27,9 +27,12 @@ containerOf lent c = take (c .length) (drop (c .start) lent)
 abbrev pub outside : (lent : List ℕ) → Candidate → Bool
 outside lent c = ltb (length lent) (c .start + c .length)
 
+abbrev pub rankCases : Own → Neighbour → List Case
+rankCases own c = 20 when rankTooHigh own c ∷ 21 when aboveLowest own c ∷ []
+
 -- bars 20 and 21
 unfoldable pub rankBar : Own → Neighbour → ℕ
-rankBar own c = firstCase (20 when rankTooHigh own c ∷ 21 when aboveLowest own c ∷ [])
+rankBar own c = firstCase (rankCases own c)
 
 abbrev pub judgeRank : Own → Neighbour → (bar : ℕ) → Verdict
 judgeRank own c zero = Unbarred (record { 0 = resulting own c })
