@@ -242,11 +242,11 @@ module _ (own : Own) (c : Neighbour) where
   unfolding rankBar
   rank-numbers = two-cases 20 21 (rankTooHigh own c) (aboveLowest own c)
 
-none-both : (xs ys : List Bool) → NoneOf xs → NoneOf ys → NoneOf (xs ++ ys)
+pub none-both : (xs ys : List Bool) → NoneOf xs → NoneOf ys → NoneOf (xs ++ ys)
 none-both [] ys p q = q
 none-both (x ∷ xs) ys p q = let (a, b) = or-parts x (anyOf (λ z. z) xs) p in rw a (none-both xs ys b q)
 
-none-parts : (xs ys : List Bool) → NoneOf (xs ++ ys) → NoneOf xs × NoneOf ys
+pub none-parts : (xs ys : List Bool) → NoneOf (xs ++ ys) → NoneOf xs × NoneOf ys
 none-parts [] ys p = (refl, p)
 none-parts (x ∷ xs) ys p = let (a, b) = or-parts x (anyOf (λ z. z) (xs ++ ys)) p in let (u, v) = none-parts xs ys b in (rw a u, v)
 
@@ -313,7 +313,7 @@ module _ (own : Own) (lent : List ℕ) (c : Candidate) where
   bar-at m lower bar g has place =
       let found = first-with objectBar (standings [] os) m objectBars lower bar has object-none place in (
         λ e. let f = exact cases 4 refl .0 (by-case (Barred (suc m) place) 15 g e) in
-        (f .0, found .0 (object-barred own n _ _ _ _ _ (suc m) place (objects-given ∙ f .1) (sym (past14 (f .0)) ∙ e))),
+            (f .0, found .0 (object-barred own n _ _ _ _ _ (suc m) place (objects-given ∙ f .1) (sym (past14 (f .0)) ∙ e))),
         λ w. let (x, y) = found .1 (w .1) in past14 (w .0) ∙ rw (x, y),
       )
 
@@ -324,7 +324,7 @@ module _ (own : Own) (lent : List ℕ) (c : Candidate) where
   constraint-at m lower bar g has place =
       let found = first-with (constraintBar n sum) os m (constraintBars n sum) lower bar has (constraint-none n sum) place in (
         λ e. let f = exact cases 5 refl .0 (by-case (Barred (suc m) place) 18 g e) in
-        (f .0, found .0 (constraint-barred own n _ _ _ (suc m) place (constraints-given ∙ f .1) (sym (past17 (f .0)) ∙ e))),
+            (f .0, found .0 (constraint-barred own n _ _ _ (suc m) place (constraints-given ∙ f .1) (sym (past17 (f .0)) ∙ e))),
         λ w. let (x, y) = found .1 (w .1) in past17 (w .0) ∙ rw (x, y),
       )
 
@@ -337,6 +337,16 @@ module _ (own : Own) (lent : List ℕ) (c : Candidate) where
   unbarred-is : (q : ℕ) (r : Rank) → q ≡ 0 → judgeRank own n q ≡ Unbarred r → r ≡ record { 0 = resulting own n }
   unbarred-is zero r z e = cc
   unbarred-is (suc q) r z e = absurd (omega arith)
+
+  -- no bar has the number 10
+  pub never-10 : (place : ℕ) → verdict own lent c ≡ Barred 10 place → ⊥
+  never-10 place e =
+      let f = exact cases 7 refl .0 (by-case (Barred 10 place) 10 refl e) in
+      let (x, y) = none-parts (barsTo19 lent c) (isGiven (rankBar own n) ∷ []) (f .0) in
+      let z = given-none (rankBar own n) (or-parts (isGiven (rankBar own n)) false y .0) in
+      let q : judgeRank own n 0 ≡ Barred 10 place = sym (past19 x ∙ rw z) ∙ e in
+      let w : _≡_ {A = ℕ} 0 1 = cc in
+      omega arith
 
   pub bars : BarExact own lent c (verdict own lent c)
   bars = record {
@@ -367,18 +377,18 @@ module _ (own : Own) (lent : List ℕ) (c : Candidate) where
     );
     bar-21 = (
       λ e. let (f, q) = rank-given 21 refl e in
-      let g = rank-21 own n .0 q in
-      (none-both (barsTo19 lent c) (rankTooHigh own n ∷ []) f (g .0), g .1),
+          let g = rank-21 own n .0 q in
+          (none-both (barsTo19 lent c) (rankTooHigh own n ∷ []) f (g .0), g .1),
       λ f. let (x, y) = none-parts (barsTo19 lent c) (rankTooHigh own n ∷ []) (f .0) in
-      past19 x ∙ rw (rank-21 own n .1 (y, f .1)),
+          past19 x ∙ rw (rank-21 own n .1 (y, f .1)),
     );
     unbarred = λ r. (
       λ e. let f = exact cases 7 refl .0 (by-case (Unbarred r) 10 refl e) in
-      let (x, y) = none-parts (barsTo19 lent c) (isGiven (rankBar own n) ∷ []) (f .0) in
-      let z = given-none (rankBar own n) (or-parts (isGiven (rankBar own n)) false y .0) in
-      (none-both (barsTo19 lent c) (rankTooHigh own n ∷ aboveLowest own n ∷ []) x (rank-none own n .0 z), unbarred-is (rankBar own n) r z (sym (past19 x) ∙ e)),
+          let (x, y) = none-parts (barsTo19 lent c) (isGiven (rankBar own n) ∷ []) (f .0) in
+          let z = given-none (rankBar own n) (or-parts (isGiven (rankBar own n)) false y .0) in
+          (none-both (barsTo19 lent c) (rankTooHigh own n ∷ aboveLowest own n ∷ []) x (rank-none own n .0 z), unbarred-is (rankBar own n) r z (sym (past19 x) ∙ e)),
       λ f. let (x, y) = none-parts (barsTo19 lent c) (rankTooHigh own n ∷ aboveLowest own n ∷ []) (f .0) in
-      past19 x ∙ rw (rank-none own n .1 y, f .1),
+          past19 x ∙ rw (rank-none own n .1 y, f .1),
     );
   }
 
@@ -434,7 +444,7 @@ module _ (own : Own) (c : Neighbour) where
     unfolding leafAnswer
     leaf-at m lower leaf h has = (
       λ e. let a = at-object (firstOf (objectLeaf own c) os) m (tooLong own c os) e h in
-      (indexOf (objectLeaf own c) os, first-with (objectLeaf own c) os m (leafTests own c) lower leaf has leaf-none _ .0 (a, refl)),
+          (indexOf (objectLeaf own c) os, first-with (objectLeaf own c) os m (leafTests own c) lower leaf has leaf-none _ .0 (a, refl)),
       λ w. let (x, y) = first-with (objectLeaf own c) os m (leafTests own c) lower leaf has leaf-none (w .0) .1 (w .1) in rw x,
     )
 

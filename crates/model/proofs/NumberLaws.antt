@@ -169,6 +169,6 @@ pub first-with : {A : Type 0} (f : A → ℕ) (xs : List A) (n : ℕ) (group low
     → (index : ℕ) → ((firstOf f xs ≡ suc n) × (indexOf f xs ≡ index)) ↔ FirstWith xs group lower property index
 first-with f xs n group lower property has clear index = (
   λ e. let a = firstOf-at f xs n (e .0) in
-  rw (← e .1) record { element = a .element; stands = a .stands; has = has (a .element) .0 (a .gives); clear = λ i x h s. clear x .0 (a .clear i x h s) },
+      rw (← e .1) record { element = a .element; stands = a .stands; has = has (a .element) .0 (a .gives); clear = λ i x h s. clear x .0 (a .clear i x h s) },
   λ w. at-firstOf f xs n index record { element = w .element; stands = w .stands; gives = has (w .element) .1 (w .has); clear = λ i x h s. clear x .1 (w .clear i x h s) },
 )

@@ -1,0 +1,47 @@
+-- Elements by index, through map and append.
+use mathlib.Core.Path.{_≡_, refl, sym, ap, _∙_}
+use Prim.Native.Nat.{ℕ, zero, suc, _+_, _-_, _≤_, _<_}
+use native.Mathlib.Omega.{arith}
+use mathlib.Core.Bool.{Bool, true, false, _||_, false≢true}
+use mathlib.Core.List.{List, [], _∷_, _++_, map}
+use mathlib.Core.Option.{Option, none, some, Option·none-ne-some}
+use lib.ListN.{length, getD, getElem?, replicate, length-append, length-replicate}
+use Rattle.model.specs.Number.{anyOf}
+
+pub at-below : {A : Type 0} (xs : List A) (i : ℕ) (x : A) → getElem? xs i ≡ some x → i < length xs
+at-below [] i x e = absurd (Option·none-ne-some x e)
+at-below (y ∷ xs) zero x e = omega arith
+at-below (y ∷ xs) (suc i) x e = let h = at-below xs i x e in omega arith
+
+pub at-map : {A B : Type 0} (f : A → B) (xs : List A) (i : ℕ) (x : A) → getElem? xs i ≡ some x → getElem? (map f xs) i ≡ some (f x)
+at-map f [] i x e = absurd (Option·none-ne-some x e)
+at-map f (y ∷ xs) zero x e = let q : y ≡ x = cc in rw q
+at-map f (y ∷ xs) (suc i) x e = at-map f xs i x e
+
+pub map-at : {A B : Type 0} (f : A → B) (xs : List A) (i : ℕ) (y : B) → getElem? (map f xs) i ≡ some y → (x : A) × (getElem? xs i ≡ some x) × (f x ≡ y)
+map-at f [] i y e = absurd (Option·none-ne-some y e)
+map-at f (x ∷ xs) zero y e = (x, refl, cc)
+map-at f (x ∷ xs) (suc i) y e = map-at f xs i y e
+
+pub getD-at : {A B : Type 0} (f : A → B) (xs : List A) (ys : List B) (d : B) (i : ℕ) (x : A) → getElem? xs i ≡ some x → getD (map f xs ++ ys) i d ≡ f x
+getD-at f [] ys d i x e = absurd (Option·none-ne-some x e)
+getD-at f (y ∷ xs) ys d zero x e = let q : y ≡ x = cc in rw q
+getD-at f (y ∷ xs) ys d (suc i) x e = getD-at f xs ys d i x e
+
+getD-same : {A : Type 0} (n i : ℕ) (x : A) → getD (replicate n x) i x ≡ x
+getD-same zero i x = refl
+getD-same (suc n) zero x = refl
+getD-same (suc n) (suc i) x = getD-same n i x
+
+pub getD-past : {A B : Type 0} (f : A → B) (xs : List A) (n : ℕ) (d : B) (i : ℕ) → length xs ≤ i → getD (map f xs ++ replicate n d) i d ≡ d
+getD-past f [] n d i h = getD-same n i d
+getD-past f (x ∷ xs) n d zero h = absurd (omega arith)
+getD-past f (x ∷ xs) n d (suc i) h = getD-past f xs n d i (omega arith)
+
+pub any-map : {A B : Type 0} (p : B → Bool) (f : A → B) (xs : List A) → anyOf p (map f xs) ≡ anyOf (λ x. p (f x)) xs
+any-map p f [] = refl
+any-map p f (x ∷ xs) = rw (any-map p f xs)
+
+-- filled up to a length
+pub length-filled : {A : Type 0} (n : ℕ) (xs : List A) (d : A) → length xs ≤ n → length (xs ++ replicate (n - length xs) d) ≡ n
+length-filled n xs d h = length-append xs (replicate (n - length xs) d) ∙ rw (length-replicate (n - length xs) d) (omega arith)

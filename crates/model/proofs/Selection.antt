@@ -1,0 +1,226 @@
+-- What a call reports that is not refused: the parent, the verdicts, the bits and their count.
+use mathlib.Core.Path.{_≡_, refl, sym, ap, _∙_}
+use Prim.Native.Nat.{ℕ, zero, suc, _+_, _-_, _≤_, _<_}
+use native.Mathlib.Nat.{add-zero}
+use native.Mathlib.Omega.{arith}
+use mathlib.Core.Bool.{Bool, true, false, cond, not, _&&_, _||_, false≢true, true≢false}
+use mathlib.Core.List.{List, [], _∷_, _++_, map}
+use mathlib.Core.Option.{Option, none, some, Option·some-injective, Option·none-ne-some}
+use lib.ListN.{length, getD, getElem?, replicate, length-map}
+use lib.Dec.{leb, ltb, eqb}
+use lib.Count.{ones}
+use borrow.Author.Tests.{ltb-false, eqb-true, eqb-false, ne-eqb, eq-eqb}
+use Rattle.model.specs.declared.Quantity.{Quantity}
+use Rattle.model.specs.declared.Quantity.the-variants.{Known, Unknown}
+use Rattle.model.specs.declared.Rank.{Rank}
+use Rattle.model.specs.declared.Own.{Own}
+use Rattle.model.specs.declared.Candidate.{Candidate}
+use Rattle.model.specs.declared.Verdict.{Verdict}
+use Rattle.model.specs.declared.Verdict.the-variants.{Unbarred, Barred}
+use Rattle.model.specs.declared.Choice.{Choice}
+use Rattle.model.specs.declared.Choice.the-variants.{Nobody, Parent}
+use Rattle.model.specs.declared.Answer.{Answer}
+use Rattle.model.specs.Number.{isSet, anyOf}
+use Rattle.model.specs.Object.{Object}
+use Rattle.model.specs.Reading.{noPlace, wellFormed, reading}
+use Rattle.model.specs.Rank.{infinite, resulting}
+use Rattle.model.specs.Verdict.{outOfRange, containerOf, verdict, numberOf, placeOf, isUnbarred}
+use Rattle.model.specs.Choice.{badOwn, tooMany, currentOf, currentPast, shortOutput, notCurrent, criteria, precedes, choose, unbarredBit, bitsOf, Outgoing, noContainer, outgoing, noParent, parentOf, rankOf, leafOf, lengthOf, sixteen, Result, answered, unlessRefused, verdicts, choiceOf, call, refusal}
+use Rattle.model.specs.Exact.{NoneOf}
+use Rattle.model.specs.Selection.{hasParent, free, occurrences, Parented, Selection}
+use Rattle.model.proofs.NumberLaws.{or-parts}
+use Rattle.model.proofs.ListLaws.{at-below, at-map, map-at, getD-at, getD-past, any-map, length-filled}
+use Rattle.model.proofs.ChoiceLaws.{not-preceding, isParent, Preferred, choose-preferred, choose-unbarred, choose-parent, bit-at, bits-below, unbarredCount, ones-bits}
+use Rattle.model.proofs.Exact.{refusal-is, refusals}
+use Rattle.model.proofs.VerdictLaws.{Admitted, admitted, ten, finite, rises}
+
+-- ---- a call that is not refused
+
+pub call-is : (own : Own) (cs : List Candidate) (lent out : List ℕ) → call own cs lent out .answer .refusal ≡ 0
+    → call own cs lent out ≡ answered (verdicts own cs lent) (choiceOf own cs lent) (outgoing own cs lent (choiceOf own cs lent)) out
+unfolding call
+call-is own cs lent out e =
+    let z : refusal own (length cs) (length out) ≡ 0 = sym (refusal-is own cs lent out) ∙ e in
+    rw z
+
+-- what the refusals that do not hold say
+pub record Unrefused (own : Own) (cs : List Candidate) (out : List ℕ) : Type 0 where
+  pub grows : 1 ≤ own .minhop
+  pub few : length cs ≤ 16
+  pub room : 257 ≤ length out
+
+pub unrefused : (own : Own) (cs : List Candidate) (lent out : List ℕ) → call own cs lent out .answer .refusal ≡ 0 → Unrefused own cs out
+unfolding badOwn
+unrefused own cs lent out e =
+    let h = refusals own cs lent out .unrefused .0 e in
+    let (a, x) = or-parts (badOwn own) _ h in
+    let (b, y) = or-parts (tooMany (length cs)) _ x in
+    let (c, z) = or-parts (currentPast own (length cs)) _ y in
+    let (d, w) = or-parts (shortOutput (length out)) false z in
+    let m = eqb-false (own .minhop) 0 (or-parts (eqb (own .minhop) 0) _ a .0) in
+    record { grows = go (own .minhop) m; few = ltb-false 16 (length cs) b; room = ltb-false (length out) 257 d }
+  where
+    go : (n : ℕ) → (n ≡ 0 → ⊥) → 1 ≤ n
+    go zero h = absurd (h refl)
+    go (suc n) h = omega arith
+
+-- ---- the criteria
+
+-- position p is preferred to k: a lower rank; or the same, and p is current; or neither is, and p is lower
+ties : (q : Quantity) (k p : ℕ) (s r : Rank) → precedes (criteria q k s) (criteria q p r) ≡ false
+    → (r .0 ≤ s .0) × (s .0 ≡ r .0 → (notCurrent q p ≤ notCurrent q k) × (notCurrent q k ≡ notCurrent q p → p ≤ k))
+unfolding precedes
+ties q k p s r e =
+    let (a, f) = not-preceding (s .0) (r .0) _ e in (
+      a,
+      λ h. let (b, g) = not-preceding (notCurrent q k) (notCurrent q p) _ (f h) in
+          (b, λ i. not-preceding k p false (g i) .0),
+    )
+
+current-is : (q : Quantity) (p : ℕ) → notCurrent q p ≤ 0 → q ≡ Known p
+current-is (Known i) p h = go (eqb i p) refl h
+  where
+    go : (b : Bool) → eqb i p ≡ b → cond b 0 1 ≤ 0 → Known i ≡ Known p
+    go true e h = ap Known (eqb-true i p e)
+    go false e h = absurd (omega arith)
+current-is Unknown p h = absurd (omega arith)
+
+is-current : (q : Quantity) (p : ℕ) → q ≡ Known p → notCurrent q p ≡ 0
+is-current q p e = rw (e, eq-eqb p p refl)
+
+not-current : (q : Quantity) (p : ℕ) → (q ≡ Known p → ⊥) → notCurrent q p ≡ 1
+not-current (Known i) p h = let f : eqb i p ≡ false = ne-eqb i p (λ e. h (ap Known e)) in rw f
+not-current Unknown p h = refl
+
+at-most-one : (q : Quantity) (p : ℕ) → notCurrent q p ≤ 1
+at-most-one (Known i) p = go (eqb i p)
+  where
+    go : (b : Bool) → cond {A = ℕ} b 0 1 ≤ 1
+    go true = omega arith
+    go false = omega arith
+at-most-one Unknown p = omega arith
+
+-- ---- counts
+
+occurrences-append : (n : ℕ) (xs ys : List ℕ) → occurrences n (xs ++ ys) ≡ occurrences n xs + occurrences n ys
+unfolding occurrences
+occurrences-append n [] ys = omega arith
+occurrences-append n (x ∷ xs) ys = rw (occurrences-append n xs ys) (omega arith)
+
+occurrences-zeros : (n : ℕ) → occurrences 10 (replicate n 0) ≡ 0
+unfolding occurrences
+occurrences-zeros zero = refl
+occurrences-zeros (suc n) = let h = occurrences-zeros n in omega arith
+
+-- the verdicts 10 are those of the unbarred candidates
+tens : (own : Own) (lent : List ℕ) (cs : List Candidate) → unbarredCount (verdicts own cs lent) ≡ occurrences 10 (map numberOf (verdicts own cs lent))
+unfolding occurrences unbarredCount
+tens own lent [] = refl
+tens own lent (c ∷ cs) = rw (ten own lent c, tens own lent cs) (ap (λ b. b + occurrences 10 (map numberOf (verdicts own cs lent))) (go (verdict own lent c)))
+  where
+    go : (v : Verdict) → unbarredBit v ≡ cond (isUnbarred v) 1 0
+    go (Unbarred r) = refl
+    go (Barred n p) = refl
+
+-- ---- the parent
+
+module _ (own : Own) (cs : List Candidate) (lent out : List ℕ) (taken : call own cs lent out .answer .refusal ≡ 0) where
+  abbrev vs : List Verdict
+  vs = verdicts own cs lent
+
+  -- the candidate behind an unbarred verdict
+  candidate-at : (p : ℕ) (r : Rank) → getElem? vs p ≡ some (Unbarred r) → (c : Candidate) × (getElem? cs p ≡ some c) × (verdict own lent c ≡ Unbarred r)
+  candidate-at p r e = map-at (verdict own lent) cs p (Unbarred r) e
+
+  below : (p : ℕ) (r : Rank) → choiceOf own cs lent ≡ Parent p r → p < 16
+  below p r e =
+      let (c, s, v) = candidate-at p r (choose-unbarred (currentOf own) vs p r e) in
+      let u = unrefused own cs lent out taken in
+      let b = at-below cs p c s in
+      omega (arith, u .few)
+
+  has-parent : (ch : Choice) → choiceOf own cs lent ≡ ch → not (eqb (parentOf ch) noParent) ≡ isParent ch
+  has-parent Nobody e = refl
+  has-parent (Parent p r) e = let h = below p r e in let f : eqb p noParent ≡ false = ne-eqb p noParent (λ z. omega arith) in rw f
+
+  -- what is unbarred at a position, as the choice sees it
+  unbarred-at : (i : ℕ) (d : Candidate) → getElem? cs i ≡ some d → free own lent d ≡ true → getElem? vs i ≡ some (Unbarred (record { 0 = resulting own (d .neighbour) }))
+  unbarred-at i d s f = at-map (verdict own lent) cs i d s ∙ ap some (admitted own lent d f .rank)
+
+  parented : (p : ℕ) (r : Rank) → choiceOf own cs lent ≡ Parent p r → (o : Outgoing) → Parented own cs lent (answered vs (Parent p r) o out .answer)
+  parented p r e o =
+      let (c, s, v) = candidate-at p r (choose-unbarred (currentOf own) vs p r e) in
+      let f : free own lent c ≡ true = rw v in
+      let a = admitted own lent c f in
+      let k : Unbarred r ≡ Unbarred (record { 0 = resulting own (c .neighbour) }) = sym v ∙ a .rank in
+      let g : r .0 ≡ resulting own (c .neighbour) = unbarred-rank r (record { 0 = resulting own (c .neighbour) }) k in
+      record {
+        candidate = c;
+        stands = s;
+        unbarred = f;
+        objects = a .objects;
+        read = a .read;
+        rank = g;
+        finite = let h = finite own (c .neighbour) (a .lowRank) in omega arith;
+        rises = let h = rises own (c .neighbour) (a .inRange) (unrefused own cs lent out taken .grows) in omega arith;
+        least = λ i d s f. beside i d s f .0;
+        tie-current = λ i d s f t q.
+            let (x, y) = beside i d s f .1 t in
+            let z : notCurrent (currentOf own) p ≤ 0 = let w = is-current (currentOf own) i q in omega arith in
+            known-same (currentOf own) p i (current-is (currentOf own) p z) q;
+        tie-position = λ i d s f t q.
+            let (x, y) = beside i d s f .1 t in
+            let one = not-current (currentOf own) p q in
+            let most = at-most-one (currentOf own) i in
+            y (omega arith);
+      }
+    where
+      unbarred-rank : (r s : Rank) → Unbarred r ≡ Unbarred s → r .0 ≡ s .0
+      unbarred-rank r s e = let q : r ≡ s = cc in ap (λ x. x .0) q
+
+      known-same : (q : Quantity) (p i : ℕ) → q ≡ Known p → q ≡ Known i → p ≡ i
+      known-same q p i a b = cc
+
+      beside : (i : ℕ) (d : Candidate) → getElem? cs i ≡ some d → free own lent d ≡ true
+          → (r .0 ≤ resulting own (d .neighbour))
+          × (resulting own (d .neighbour) ≡ r .0 → (notCurrent (currentOf own) p ≤ notCurrent (currentOf own) i) × (notCurrent (currentOf own) i ≡ notCurrent (currentOf own) p → p ≤ i))
+      beside i d s f =
+          let h : Preferred (currentOf own) (Parent p r) i (record { 0 = resulting own (d .neighbour) }) =
+          rw e at (choose-preferred (currentOf own) vs i (record { 0 = resulting own (d .neighbour) }) (unbarred-at i d s f)) in
+          ties (currentOf own) i p (record { 0 = resulting own (d .neighbour) }) r h
+
+  by-choice : (ch : Choice) → choiceOf own cs lent ≡ ch → Selection own cs lent (answered vs ch (outgoing own cs lent ch) out .answer)
+  unfolding outgoing
+  by-choice ch e = record {
+    exists = has-parent ch e ∙ rw (← e) (choose-parent (currentOf own) vs) ∙ any-map isUnbarred (verdict own lent) cs;
+    parent = go ch e;
+    nobody = none ch e;
+    verdict-at = λ i c s. (reported numberOf 0 i c s, reported placeOf noPlace i c s);
+    verdict-past = λ i h. (past numberOf 0 i h, past placeOf noPlace i h);
+    sixteen = (filled numberOf 0, filled placeOf noPlace);
+    bit-at = λ i c s. bit-at vs i (verdict own lent c) (at-map (verdict own lent) cs i c s);
+    bit-past = rw (← length-map cs (verdict own lent)) (bits-below vs);
+    count-bits = refl;
+    count-verdicts = ones-bits vs ∙ tens own lent cs ∙ sym (occurrences-append 10 (map numberOf vs) (replicate (16 - length (map numberOf vs)) 0) ∙ rw occurrences-zeros (omega arith));
+  }
+    where
+      go : (ch : Choice) → choiceOf own cs lent ≡ ch → hasParent (answered vs ch (outgoing own cs lent ch) out .answer) ≡ true → Parented own cs lent (answered vs ch (outgoing own cs lent ch) out .answer)
+      go Nobody e h = absurd (false≢true h)
+      go (Parent p r) e h = parented p r e (outgoing own cs lent (Parent p r))
+
+      none : (ch : Choice) → choiceOf own cs lent ≡ ch → hasParent (answered vs ch (outgoing own cs lent ch) out .answer) ≡ false
+          → (rankOf ch .0 ≡ infinite) × (leafOf (outgoing own cs lent ch) ≡ 0) × (lengthOf (outgoing own cs lent ch) ≡ 0)
+      none Nobody e h = (refl, refl, refl)
+      none (Parent p r) e h = absurd (true≢false (sym (has-parent (Parent p r) e) ∙ h))
+
+      reported : (f : Verdict → ℕ) (d i : ℕ) (c : Candidate) → getElem? cs i ≡ some c → getD (sixteen d (map f vs)) i d ≡ f (verdict own lent c)
+      reported f d i c s = getD-at f vs (replicate (16 - length (map f vs)) d) d i (verdict own lent c) (at-map (verdict own lent) cs i c s)
+
+      past : (f : Verdict → ℕ) (d i : ℕ) → length cs ≤ i → getD (sixteen d (map f vs)) i d ≡ d
+      past f d i h = getD-past f vs (16 - length (map f vs)) d i (rw (length-map cs (verdict own lent)) h)
+
+      filled : (f : Verdict → ℕ) (d : ℕ) → length (sixteen d (map f vs)) ≡ 16
+      filled f d = length-filled 16 (map f vs) d (rw (length-map vs f, length-map cs (verdict own lent)) (unrefused own cs lent out taken .few))
+
+  pub selection : Selection own cs lent (call own cs lent out .answer)
+  selection = rw (call-is own cs lent out taken) (by-choice (choiceOf own cs lent) refl)

@@ -1,0 +1,91 @@
+-- What an unbarred verdict says, and that its number alone is 10.
+use mathlib.Core.Path.{_≡_, refl, sym, ap, _∙_}
+use Prim.Native.Nat.{ℕ, zero, suc, _+_, _*_, _≤_, _<_}
+use native.Mathlib.Nat.{mul-le-mul}
+use native.Mathlib.Omega.{arith}
+use mathlib.Core.Bool.{Bool, true, false, cond, _||_, false≢true, true≢false}
+use mathlib.Core.List.{List, [], _∷_}
+use lib.Dec.{leb, ltb, eqb}
+use borrow.Author.Tests.{ltb-false, leb-false, eqb-false, ne-eqb}
+use Rattle.model.specs.declared.Rank.{Rank}
+use Rattle.model.specs.declared.Own.{Own}
+use Rattle.model.specs.declared.Neighbour.{Neighbour}
+use Rattle.model.specs.declared.Candidate.{Candidate}
+use Rattle.model.specs.declared.Verdict.{Verdict}
+use Rattle.model.specs.declared.Verdict.the-variants.{Unbarred, Barred}
+use Rattle.model.specs.Object.{Object}
+use Rattle.model.specs.Reading.{noPlace, Reading, refused, wellFormed, reading}
+use Rattle.model.specs.Rank.{infinite, resulting, rankTooHigh, aboveLowest}
+use Rattle.model.specs.Verdict.{outOfRange, containerOf, outside, judgeReading, verdict, numberOf, isUnbarred}
+use Rattle.model.specs.Exact.{NoneOf, barsTo14, barsTo17, barsTo19}
+use Rattle.model.proofs.NumberLaws.{or-parts}
+use Rattle.model.proofs.Exact.{bars, none-parts, never-10}
+
+-- what is known of a candidate that nothing bars
+pub record Admitted (own : Own) (lent : List ℕ) (c : Candidate) : Type 0 where
+  pub rank : verdict own lent c ≡ Unbarred (record { 0 = resulting own (c .neighbour) })
+  pub inRange : outOfRange (c .neighbour) ≡ false
+  pub inside : outside lent c ≡ false
+  pub lowRank : rankTooHigh own (c .neighbour) ≡ false
+  pub objects : List Object
+  pub read : reading (containerOf lent c) ≡ wellFormed objects
+
+judged-read : (own : Own) (c : Neighbour) (r : Rank) (x : Reading) → judgeReading own c x ≡ Unbarred r → (os : List Object) × (x ≡ wellFormed os)
+judged-read own c r (refused n p) e = absurd (let z : _≡_ {A = ℕ} 0 1 = cc in omega arith)
+judged-read own c r (wellFormed os) e = (os, refl)
+
+module _ (own : Own) (lent : List ℕ) (c : Candidate) where
+  admitted-rank : (r : Rank) → verdict own lent c ≡ Unbarred r → Admitted own lent c
+  unfolding verdict
+  admitted-rank r e =
+      let (f, q) = bars own lent c .unbarred r .0 e in
+      let (x, y) = none-parts (barsTo19 lent c) (rankTooHigh own (c .neighbour) ∷ aboveLowest own (c .neighbour) ∷ []) f in
+      let (u, v) = or-parts (outOfRange (c .neighbour)) _ x in
+      let (s, t) = or-parts (outside lent c) _ v in
+      let h : judgeReading own (c .neighbour) (reading (containerOf lent c)) ≡ Unbarred r = rw (u, s) at e in
+      let (os, w) = judged-read own (c .neighbour) r (reading (containerOf lent c)) h in
+      record { rank = rw (← q) e; inRange = u; inside = s; lowRank = or-parts (rankTooHigh own (c .neighbour)) _ y .0; objects = os; read = w }
+
+  pub admitted : isUnbarred (verdict own lent c) ≡ true → Admitted own lent c
+  admitted h = go (verdict own lent c) refl h
+    where
+      go : (v : Verdict) → verdict own lent c ≡ v → isUnbarred v ≡ true → Admitted own lent c
+      go (Unbarred r) e h = admitted-rank r e
+      go (Barred n p) e h = absurd (false≢true h)
+
+  -- only an unbarred candidate has verdict 10
+  pub ten : eqb (numberOf (verdict own lent c)) 10 ≡ isUnbarred (verdict own lent c)
+  ten = go (verdict own lent c) refl
+    where
+      go : (v : Verdict) → verdict own lent c ≡ v → eqb (numberOf v) 10 ≡ isUnbarred v
+      go (Unbarred r) e = refl
+      go (Barred n p) e = ne-eqb n 10 (λ z. never-10 own lent c p (e ∙ rw z))
+
+-- ---- the resulting rank
+
+pub finite : (own : Own) (c : Neighbour) → rankTooHigh own c ≡ false → resulting own c < infinite
+unfolding rankTooHigh
+finite own c h = leb-false infinite (resulting own c) (or-parts (eqb (c .rank .0) infinite) (leb infinite (resulting own c)) h .1)
+
+-- units are at least one, and so is MinHopRankIncrease
+in-range : (c : Neighbour) → outOfRange c ≡ false → (1 ≤ c .sp) × (1 ≤ c .rf)
+unfolding outOfRange
+in-range c h =
+    let (a, x) = or-parts _ (ltb 3 (c .nodetype)) h in
+    let (b, x) = or-parts _ (ltb 7 (c .lql)) a in
+    let (d, x) = or-parts _ (ltb 5 (c .sr)) b in
+    let (e, x) = or-parts _ (ltb 4 (c .rf)) d in
+    let (f, r) = or-parts _ (ltb (c .rf) 1) e in
+    let (s, x) = or-parts (ltb (c .sp) 1) (ltb 9 (c .sp)) f in
+    (ltb-false (c .sp) 1 s, ltb-false (c .rf) 1 r)
+
+product : (a b : ℕ) → 1 ≤ a → 1 ≤ b → 1 ≤ a * b
+product a b h k = mul-le-mul {n₂ = a} {m₂ = b} h k
+
+pub rises : (own : Own) (c : Neighbour) → outOfRange c ≡ false → 1 ≤ own .minhop → c .rank .0 < resulting own c
+unfolding resulting
+rises own c h m =
+    let (s, r) = in-range c h in
+    let u : 1 ≤ c .rf * c .sp = product (c .rf) (c .sp) r s in
+    let p : 1 ≤ (c .rf * c .sp + c .sr) * own .minhop = product (c .rf * c .sp + c .sr) (own .minhop) (omega arith) m in
+    omega arith
