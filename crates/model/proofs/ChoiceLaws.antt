@@ -19,7 +19,8 @@ use Rattle.model.specs.declared.Verdict.the-variants.{Unbarred, Barred}
 use Rattle.model.specs.declared.Choice.{Choice}
 use Rattle.model.specs.declared.Choice.the-variants.{Nobody, Parent}
 use Rattle.model.specs.Number.{isSet, anyOf}
-use Rattle.model.specs.Verdict.{isUnbarred}
+use Rattle.model.specs.Reading.{noPlace}
+use Rattle.model.specs.Verdict.{numberOf, isUnbarred}
 use Rattle.model.specs.Choice.{criteria, precedes, preferred, afterVerdict, chooseFrom, choose, unbarredBit, bitsOf}
 
 -- ---- the order of criteria
@@ -225,3 +226,34 @@ unfolding bitsOf unbarredCount
 ones-bits [] = unfold ones onesIn in refl
 ones-bits (v ∷ vs) =
     ones-step (unbarredBit v + 2 * bitsOf vs) ∙ rw (low (unbarredBit v) (bitsOf vs) (bit-small v), half (unbarredBit v) (bitsOf vs) (bit-small v), ones-bits vs)
+
+-- ---- verdicts without their places
+
+abbrev pub placeless : Verdict → Verdict
+placeless (Unbarred r) = Unbarred r
+placeless (Barred n p) = Barred n noPlace
+
+from-placeless : (q : Quantity) (vs : List Verdict) (b : Choice) (n : ℕ) → chooseFrom q b n (map placeless vs) ≡ chooseFrom q b n vs
+unfolding chooseFrom
+from-placeless q [] b n = refl
+from-placeless q (Unbarred r ∷ vs) b n = from-placeless q vs (preferred q b n r) (suc n)
+from-placeless q (Barred k p ∷ vs) b n = from-placeless q vs b (suc n)
+
+pub choose-placeless : (q : Quantity) (vs : List Verdict) → choose q (map placeless vs) ≡ choose q vs
+choose-placeless q vs = from-placeless q vs Nobody 0
+
+pub bits-placeless : (vs : List Verdict) → bitsOf (map placeless vs) ≡ bitsOf vs
+unfolding bitsOf
+bits-placeless [] = refl
+bits-placeless (Unbarred r ∷ vs) = rw (bits-placeless vs)
+bits-placeless (Barred n p ∷ vs) = rw (bits-placeless vs)
+
+pub numbers-placeless : (vs : List Verdict) → map numberOf (map placeless vs) ≡ map numberOf vs
+numbers-placeless [] = refl
+numbers-placeless (Unbarred r ∷ vs) = rw (numbers-placeless vs)
+numbers-placeless (Barred n p ∷ vs) = rw (numbers-placeless vs)
+
+-- what places play no part in is the same where verdicts differ in their places only
+pub without-places : {B : Type 0} (f : List Verdict → B) → ((vs : List Verdict) → f (map placeless vs) ≡ f vs) → (vs vs′ : List Verdict)
+    → map placeless vs ≡ map placeless vs′ → f vs ≡ f vs′
+without-places f h vs vs′ e = sym (h vs) ∙ ap f e ∙ h vs′

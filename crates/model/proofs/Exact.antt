@@ -24,7 +24,8 @@ use Rattle.model.specs.Verdict.{outOfRange, containerOf, outside, rankCa
 use Rattle.model.specs.Update.{unknownAggregated, notAllowed, noValue, fullCount, leafCases, objectLeaf, tooLong, leafAnswer}
 use Rattle.model.specs.Choice.{badOwn, tooMany, currentPast, shortOutput, refusalCases, refusal, Result, unlessRefused, call}
 use Rattle.model.specs.Exact.{NoneOf, FirstToHold, someHas, FirstWith, RefusalExact, listOf, objectsIn, objectBars, constraintBars, barsTo14, barsTo17, barsTo19, BarAt, ConstraintAt, BarExact, leafTests, LeafAt, LeafExact}
-use Rattle.model.proofs.NumberLaws.{or-parts, exact, exact-none, isGiven, given-case, given-none, first-zero, firstOf-all, given-firstOf, first-with}
+use Rattle.model.proofs.BoolLaws.{neither}
+use Rattle.model.proofs.NumberLaws.{exact, exact-none, isGiven, given-case, given-none, first-zero, firstOf-all, given-firstOf, first-with}
 
 -- ---- refusals
 
@@ -244,11 +245,11 @@ module _ (own : Own) (c : Neighbour) where
 
 pub none-both : (xs ys : List Bool) → NoneOf xs → NoneOf ys → NoneOf (xs ++ ys)
 none-both [] ys p q = q
-none-both (x ∷ xs) ys p q = let (a, b) = or-parts x (anyOf (λ z. z) xs) p in rw a (none-both xs ys b q)
+none-both (x ∷ xs) ys p q = let (a, b) = neither x (anyOf (λ z. z) xs) p in rw a (none-both xs ys b q)
 
 pub none-parts : (xs ys : List Bool) → NoneOf (xs ++ ys) → NoneOf xs × NoneOf ys
 none-parts [] ys p = (refl, p)
-none-parts (x ∷ xs) ys p = let (a, b) = or-parts x (anyOf (λ z. z) (xs ++ ys)) p in let (u, v) = none-parts xs ys b in (rw a u, v)
+none-parts (x ∷ xs) ys p = let (a, b) = neither x (anyOf (λ z. z) (xs ++ ys)) p in let (u, v) = none-parts xs ys b in (rw a u, v)
 
 -- ---- bars
 
@@ -297,13 +298,13 @@ module _ (own : Own) (lent : List ℕ) (c : Candidate) where
   past17 : NoneOf (barsTo17 lent c) → verdict own lent c ≡ afterConstraints own n (firstOf (constraintBar n sum) os) (indexOf (constraintBar n sum) os) (rankBar own n)
   past17 h =
       let (p, q) = none-parts (barsTo14 lent c) (someHas objectBars (standings [] os) ∷ []) h in
-      let z = given-none (firstOf objectBar (standings [] os)) (objects-given ∙ or-parts (someHas objectBars (standings [] os)) false q .0) in
+      let z = given-none (firstOf objectBar (standings [] os)) (objects-given ∙ neither (someHas objectBars (standings [] os)) false q .0) in
       past14 p ∙ rw z
 
   past19 : NoneOf (barsTo19 lent c) → verdict own lent c ≡ judgeRank own n (rankBar own n)
   past19 h =
       let (p, q) = none-parts (barsTo17 lent c) (someHas (constraintBars n sum) os ∷ []) h in
-      let z = given-none (firstOf (constraintBar n sum) os) (constraints-given ∙ or-parts (someHas (constraintBars n sum) os) false q .0) in
+      let z = given-none (firstOf (constraintBar n sum) os) (constraints-given ∙ neither (someHas (constraintBars n sum) os) false q .0) in
       past17 p ∙ rw z
 
   -- bars 15 to 17 from their number and property
@@ -343,7 +344,7 @@ module _ (own : Own) (lent : List ℕ) (c : Candidate) where
   never-10 place e =
       let f = exact cases 7 refl .0 (by-case (Barred 10 place) 10 refl e) in
       let (x, y) = none-parts (barsTo19 lent c) (isGiven (rankBar own n) ∷ []) (f .0) in
-      let z = given-none (rankBar own n) (or-parts (isGiven (rankBar own n)) false y .0) in
+      let z = given-none (rankBar own n) (neither (isGiven (rankBar own n)) false y .0) in
       let q : judgeRank own n 0 ≡ Barred 10 place = sym (past19 x ∙ rw z) ∙ e in
       let w : _≡_ {A = ℕ} 0 1 = cc in
       omega arith
@@ -385,7 +386,7 @@ module _ (own : Own) (lent : List ℕ) (c : Candidate) where
     unbarred = λ r. (
       λ e. let f = exact cases 7 refl .0 (by-case (Unbarred r) 10 refl e) in
           let (x, y) = none-parts (barsTo19 lent c) (isGiven (rankBar own n) ∷ []) (f .0) in
-          let z = given-none (rankBar own n) (or-parts (isGiven (rankBar own n)) false y .0) in
+          let z = given-none (rankBar own n) (neither (isGiven (rankBar own n)) false y .0) in
           (none-both (barsTo19 lent c) (rankTooHigh own n ∷ aboveLowest own n ∷ []) x (rank-none own n .0 z), unbarred-is (rankBar own n) r z (sym (past19 x) ∙ e)),
       λ f. let (x, y) = none-parts (barsTo19 lent c) (rankTooHigh own n ∷ aboveLowest own n ∷ []) (f .0) in
           past19 x ∙ rw (rank-none own n .1 y, f .1),
@@ -465,7 +466,7 @@ module _ (own : Own) (c : Neighbour) where
     none-35 zero false = (λ e. refl, λ f. refl)
     none-35 (suc a) b = (λ e. absurd (omega arith), λ f. absurd (true≢false f))
 
-    leaf-exact : LeafExact own c os (leafAnswer own c os)
+    pub leaf-exact : LeafExact own c os (leafAnswer own c os)
     unfolding leafAnswer
     leaf-exact = record {
       leaf-31 = leaf-at 30 [] unknownAggregated (λ e. omega arith) leaf-31;
@@ -474,7 +475,7 @@ module _ (own : Own) (c : Neighbour) where
       leaf-34 = leaf-at 33 (unknownAggregated ∷ notAllowed ∷ noValue own c ∷ []) fullCount (λ e. omega arith) leaf-34;
       leaf-35 = (
         λ e. let f = only-35 (firstOf (objectLeaf own c) os) (tooLong own c os) not-35 .0 e in (rw (← leaves-given, f .0), f .1),
-        λ f. only-35 (firstOf (objectLeaf own c) os) (tooLong own c os) not-35 .1 (leaves-given ∙ or-parts (someHas (leafTests own c) os) false (f .0) .0, f .1),
+        λ f. only-35 (firstOf (objectLeaf own c) os) (tooLong own c os) not-35 .1 (leaves-given ∙ neither (someHas (leafTests own c) os) false (f .0) .0, f .1),
       );
       no-leaf = (
         λ e. rw (← leaves-given) (none-35 (firstOf (objectLeaf own c) os) (tooLong own c os) .0 e),

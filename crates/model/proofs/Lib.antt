@@ -1,6 +1,17 @@
+pub mod BoolLaws
 pub mod NumberLaws
 pub mod ListLaws
+pub mod ObjectLaws
 pub mod ChoiceLaws
 pub mod Exact
 pub mod VerdictLaws
+pub mod CallLaws
 pub mod Selection
+pub mod OutgoingLaws
+pub mod Untouched
+pub mod CutLaws
+pub mod ReadingLaws
+pub mod UpdateLaws
+pub mod CutVerdictLaws
+pub mod Unknown
+pub mod SecondCall

@@ -23,20 +23,21 @@ map-at f [] i y e = absurd (Option·none-ne-some y e)
 map-at f (x ∷ xs) zero y e = (x, refl, cc)
 map-at f (x ∷ xs) (suc i) y e = map-at f xs i y e
 
-pub getD-at : {A B : Type 0} (f : A → B) (xs : List A) (ys : List B) (d : B) (i : ℕ) (x : A) → getElem? xs i ≡ some x → getD (map f xs ++ ys) i d ≡ f x
-getD-at f [] ys d i x e = absurd (Option·none-ne-some x e)
-getD-at f (y ∷ xs) ys d zero x e = let q : y ≡ x = cc in rw q
-getD-at f (y ∷ xs) ys d (suc i) x e = getD-at f xs ys d i x e
+-- the element of a list with anything behind it
+pub getD-at : {A : Type 0} (xs behind : List A) (i : ℕ) (x d : A) → getElem? xs i ≡ some x → getD (xs ++ behind) i d ≡ x
+getD-at [] behind i x d e = absurd (Option·none-ne-some x e)
+getD-at (y ∷ xs) behind zero x d e = cc
+getD-at (y ∷ xs) behind (suc i) x d e = getD-at xs behind i x d e
 
 getD-same : {A : Type 0} (n i : ℕ) (x : A) → getD (replicate n x) i x ≡ x
 getD-same zero i x = refl
 getD-same (suc n) zero x = refl
 getD-same (suc n) (suc i) x = getD-same n i x
 
-pub getD-past : {A B : Type 0} (f : A → B) (xs : List A) (n : ℕ) (d : B) (i : ℕ) → length xs ≤ i → getD (map f xs ++ replicate n d) i d ≡ d
-getD-past f [] n d i h = getD-same n i d
-getD-past f (x ∷ xs) n d zero h = absurd (omega arith)
-getD-past f (x ∷ xs) n d (suc i) h = getD-past f xs n d i (omega arith)
+pub getD-past : {A : Type 0} (xs : List A) (n : ℕ) (d : A) (i : ℕ) → length xs ≤ i → getD (xs ++ replicate n d) i d ≡ d
+getD-past [] n d i h = getD-same n i d
+getD-past (x ∷ xs) n d zero h = absurd (omega arith)
+getD-past (x ∷ xs) n d (suc i) h = getD-past xs n d i (omega arith)
 
 pub any-map : {A B : Type 0} (p : B → Bool) (f : A → B) (xs : List A) → anyOf p (map f xs) ≡ anyOf (λ x. p (f x)) xs
 any-map p f [] = refl

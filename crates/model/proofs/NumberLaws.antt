@@ -11,15 +11,8 @@ use lib.ListN.{take, getD, getElem?}
 use lib.Dec.{eqb}
 use borrow.Author.Tests.{eqb-false, eq-eqb, not-true}
 use Rattle.model.specs.Number.{anyOf, Case, _when_, firstCase, first, firstOf, indexAfter, indexOf}
+use Rattle.model.proofs.BoolLaws.{both}
 use Rattle.model.specs.Exact.{NoneOf, FirstToHold, someHas, FirstWith}
-
-pub and-parts : (a b : Bool) → a && b ≡ true → (a ≡ true) × (b ≡ true)
-and-parts true b e = (refl, e)
-and-parts false b e = absurd (false≢true e)
-
-pub or-parts : (a b : Bool) → a || b ≡ false → (a ≡ false) × (b ≡ false)
-or-parts true b e = absurd (true≢false e)
-or-parts false b e = (refl, e)
 
 -- ---- the first case that holds
 
@@ -36,7 +29,7 @@ other m n h e = eqb-false m n (not-true (eqb m n) h) e
 
 absent-not : (n : ℕ) (cs : List Case) → absent n cs ≡ true → firstCase cs ≡ n → ⊥
 absent-not n [] h e = other 0 n h e
-absent-not n (c ∷ cs) h e = let (p, q) = and-parts (not (eqb (c .number) n)) (absent n cs) h in go (c .holds) p (absent-not n cs q) e
+absent-not n (c ∷ cs) h e = let (p, q) = both (not (eqb (c .number) n)) (absent n cs) h in go (c .holds) p (absent-not n cs q) e
   where
     go : (b : Bool) → not (eqb (c .number) n) ≡ true → (firstCase cs ≡ n → ⊥) → cond b (c .number) (firstCase cs) ≡ n → ⊥
     go true p ih e = other (c .number) n p e
@@ -59,7 +52,7 @@ exact (c ∷ cs) zero h = go (c .holds) (absent-not (c .number) cs h)
     go : (t : Bool) → (firstCase cs ≡ c .number → ⊥) → (cond t (c .number) (firstCase cs) ≡ c .number) ↔ FirstToHold [] t
     go true x = (λ e. (refl, refl), λ f. refl)
     go false x = (λ e. absurd (x e), λ f. absurd (false≢true (f .1)))
-exact (c ∷ cs) (suc k) h = let (p, q) = and-parts (not (eqb (c .number) (numberAt cs k))) (alone cs k) h in go (c .holds) p (exact cs k q)
+exact (c ∷ cs) (suc k) h = let (p, q) = both (not (eqb (c .number) (numberAt cs k))) (alone cs k) h in go (c .holds) p (exact cs k q)
   where
     go : (t : Bool) → not (eqb (c .number) (numberAt cs k)) ≡ true → ((firstCase cs ≡ numberAt cs k) ↔ FirstToHold (take k (holding cs)) (getD (holding cs) k false))
         → (cond t (c .number) (firstCase cs) ≡ numberAt cs k) ↔ ((t || anyOf (λ x. x) (take k (holding cs)) ≡ false) × (getD (holding cs) k false ≡ true))
@@ -73,7 +66,7 @@ nonzero (c ∷ cs) = not (eqb (c .number) 0) && nonzero cs
 -- no number is given exactly when no case holds
 pub exact-none : (cs : List Case) → nonzero cs ≡ true → (firstCase cs ≡ 0) ↔ NoneOf (holding cs)
 exact-none [] h = (λ e. refl, λ e. refl)
-exact-none (c ∷ cs) h = let (p, q) = and-parts (not (eqb (c .number) 0)) (nonzero cs) h in go (c .holds) p (exact-none cs q)
+exact-none (c ∷ cs) h = let (p, q) = both (not (eqb (c .number) 0)) (nonzero cs) h in go (c .holds) p (exact-none cs q)
   where
     go : (t : Bool) → not (eqb (c .number) 0) ≡ true → ((firstCase cs ≡ 0) ↔ NoneOf (holding cs)) → (cond t (c .number) (firstCase cs) ≡ 0) ↔ (t || anyOf (λ x. x) (holding cs) ≡ false)
     go true p ih = (λ e. absurd (other (c .number) 0 p e), λ f. absurd (true≢false f))
@@ -87,7 +80,7 @@ isGiven (suc n) = true
 
 pub given-case : (cs : List Case) → nonzero cs ≡ true → isGiven (firstCase cs) ≡ anyOf (λ x. x) (holding cs)
 given-case [] h = refl
-given-case (c ∷ cs) h = let (p, q) = and-parts (not (eqb (c .number) 0)) (nonzero cs) h in go (c .holds) (c .number) p (given-case cs q)
+given-case (c ∷ cs) h = let (p, q) = both (not (eqb (c .number) 0)) (nonzero cs) h in go (c .holds) (c .number) p (given-case cs q)
   where
     go : (t : Bool) (n : ℕ) → not (eqb n 0) ≡ true → isGiven (firstCase cs) ≡ anyOf (λ x. x) (holding cs)
         → isGiven (cond t n (firstCase cs)) ≡ t || anyOf (λ x. x) (holding cs)

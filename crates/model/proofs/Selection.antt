@@ -28,41 +28,11 @@ use Rattle.model.specs.Verdict.{outOfRange, containerOf, verdict, number
 use Rattle.model.specs.Choice.{badOwn, tooMany, currentOf, currentPast, shortOutput, notCurrent, criteria, precedes, choose, unbarredBit, bitsOf, Outgoing, noContainer, outgoing, noParent, parentOf, rankOf, leafOf, lengthOf, sixteen, Result, answered, unlessRefused, verdicts, choiceOf, call, refusal}
 use Rattle.model.specs.Exact.{NoneOf}
 use Rattle.model.specs.Selection.{hasParent, free, occurrences, Parented, Selection}
-use Rattle.model.proofs.NumberLaws.{or-parts}
+use Rattle.model.proofs.BoolLaws.{neither}
 use Rattle.model.proofs.ListLaws.{at-below, at-map, map-at, getD-at, getD-past, any-map, length-filled}
 use Rattle.model.proofs.ChoiceLaws.{not-preceding, isParent, Preferred, choose-preferred, choose-unbarred, choose-parent, bit-at, bits-below, unbarredCount, ones-bits}
-use Rattle.model.proofs.Exact.{refusal-is, refusals}
+use Rattle.model.proofs.CallLaws.{call-is, Unrefused, unrefused}
 use Rattle.model.proofs.VerdictLaws.{Admitted, admitted, ten, finite, rises}
-
--- ---- a call that is not refused
-
-pub call-is : (own : Own) (cs : List Candidate) (lent out : List ℕ) → call own cs lent out .answer .refusal ≡ 0
-    → call own cs lent out ≡ answered (verdicts own cs lent) (choiceOf own cs lent) (outgoing own cs lent (choiceOf own cs lent)) out
-unfolding call
-call-is own cs lent out e =
-    let z : refusal own (length cs) (length out) ≡ 0 = sym (refusal-is own cs lent out) ∙ e in
-    rw z
-
--- what the refusals that do not hold say
-pub record Unrefused (own : Own) (cs : List Candidate) (out : List ℕ) : Type 0 where
-  pub grows : 1 ≤ own .minhop
-  pub few : length cs ≤ 16
-  pub room : 257 ≤ length out
-
-pub unrefused : (own : Own) (cs : List Candidate) (lent out : List ℕ) → call own cs lent out .answer .refusal ≡ 0 → Unrefused own cs out
-unfolding badOwn
-unrefused own cs lent out e =
-    let h = refusals own cs lent out .unrefused .0 e in
-    let (a, x) = or-parts (badOwn own) _ h in
-    let (b, y) = or-parts (tooMany (length cs)) _ x in
-    let (c, z) = or-parts (currentPast own (length cs)) _ y in
-    let (d, w) = or-parts (shortOutput (length out)) false z in
-    let m = eqb-false (own .minhop) 0 (or-parts (eqb (own .minhop) 0) _ a .0) in
-    record { grows = go (own .minhop) m; few = ltb-false 16 (length cs) b; room = ltb-false (length out) 257 d }
-  where
-    go : (n : ℕ) → (n ≡ 0 → ⊥) → 1 ≤ n
-    go zero h = absurd (h refl)
-    go (suc n) h = omega arith
 
 -- ---- the criteria
 
@@ -139,7 +109,7 @@ module _ (own : Own) (cs : List Candidate) (lent out : List ℕ) (taken : call o
       let b = at-below cs p c s in
       omega (arith, u .few)
 
-  has-parent : (ch : Choice) → choiceOf own cs lent ≡ ch → not (eqb (parentOf ch) noParent) ≡ isParent ch
+  pub has-parent : (ch : Choice) → choiceOf own cs lent ≡ ch → not (eqb (parentOf ch) noParent) ≡ isParent ch
   has-parent Nobody e = refl
   has-parent (Parent p r) e = let h = below p r e in let f : eqb p noParent ≡ false = ne-eqb p noParent (λ z. omega arith) in rw f
 
@@ -147,7 +117,7 @@ module _ (own : Own) (cs : List Candidate) (lent out : List ℕ) (taken : call o
   unbarred-at : (i : ℕ) (d : Candidate) → getElem? cs i ≡ some d → free own lent d ≡ true → getElem? vs i ≡ some (Unbarred (record { 0 = resulting own (d .neighbour) }))
   unbarred-at i d s f = at-map (verdict own lent) cs i d s ∙ ap some (admitted own lent d f .rank)
 
-  parented : (p : ℕ) (r : Rank) → choiceOf own cs lent ≡ Parent p r → (o : Outgoing) → Parented own cs lent (answered vs (Parent p r) o out .answer)
+  pub parented : (p : ℕ) (r : Rank) → choiceOf own cs lent ≡ Parent p r → (o : Outgoing) → Parented own cs lent (answered vs (Parent p r) o out .answer)
   parented p r e o =
       let (c, s, v) = candidate-at p r (choose-unbarred (currentOf own) vs p r e) in
       let f : free own lent c ≡ true = rw v in
@@ -214,10 +184,10 @@ module _ (own : Own) (cs : List Candidate) (lent out : List ℕ) (taken : call o
       none (Parent p r) e h = absurd (true≢false (sym (has-parent (Parent p r) e) ∙ h))
 
       reported : (f : Verdict → ℕ) (d i : ℕ) (c : Candidate) → getElem? cs i ≡ some c → getD (sixteen d (map f vs)) i d ≡ f (verdict own lent c)
-      reported f d i c s = getD-at f vs (replicate (16 - length (map f vs)) d) d i (verdict own lent c) (at-map (verdict own lent) cs i c s)
+      reported f d i c s = getD-at (map f vs) (replicate (16 - length (map f vs)) d) i (f (verdict own lent c)) d (at-map f vs i (verdict own lent c) (at-map (verdict own lent) cs i c s))
 
       past : (f : Verdict → ℕ) (d i : ℕ) → length cs ≤ i → getD (sixteen d (map f vs)) i d ≡ d
-      past f d i h = getD-past f vs (16 - length (map f vs)) d i (rw (length-map cs (verdict own lent)) h)
+      past f d i h = getD-past (map f vs) (16 - length (map f vs)) d i (rw (length-map vs f, length-map cs (verdict own lent)) h)
 
       filled : (f : Verdict → ℕ) (d : ℕ) → length (sixteen d (map f vs)) ≡ 16
       filled f d = length-filled 16 (map f vs) d (rw (length-map vs f, length-map cs (verdict own lent)) (unrefused own cs lent out taken .few))

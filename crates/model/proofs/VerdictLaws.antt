@@ -18,7 +18,7 @@ use Rattle.model.specs.Reading.{noPlace, Reading, refused, wellFormed, r
 use Rattle.model.specs.Rank.{infinite, resulting, rankTooHigh, aboveLowest}
 use Rattle.model.specs.Verdict.{outOfRange, containerOf, outside, judgeReading, verdict, numberOf, isUnbarred}
 use Rattle.model.specs.Exact.{NoneOf, barsTo14, barsTo17, barsTo19}
-use Rattle.model.proofs.NumberLaws.{or-parts}
+use Rattle.model.proofs.BoolLaws.{neither}
 use Rattle.model.proofs.Exact.{bars, none-parts, never-10}
 
 -- what is known of a candidate that nothing bars
@@ -40,11 +40,11 @@ module _ (own : Own) (lent : List ℕ) (c : Candidate) where
   admitted-rank r e =
       let (f, q) = bars own lent c .unbarred r .0 e in
       let (x, y) = none-parts (barsTo19 lent c) (rankTooHigh own (c .neighbour) ∷ aboveLowest own (c .neighbour) ∷ []) f in
-      let (u, v) = or-parts (outOfRange (c .neighbour)) _ x in
-      let (s, t) = or-parts (outside lent c) _ v in
+      let (u, v) = neither (outOfRange (c .neighbour)) _ x in
+      let (s, t) = neither (outside lent c) _ v in
       let h : judgeReading own (c .neighbour) (reading (containerOf lent c)) ≡ Unbarred r = rw (u, s) at e in
       let (os, w) = judged-read own (c .neighbour) r (reading (containerOf lent c)) h in
-      record { rank = rw (← q) e; inRange = u; inside = s; lowRank = or-parts (rankTooHigh own (c .neighbour)) _ y .0; objects = os; read = w }
+      record { rank = rw (← q) e; inRange = u; inside = s; lowRank = neither (rankTooHigh own (c .neighbour)) _ y .0; objects = os; read = w }
 
   pub admitted : isUnbarred (verdict own lent c) ≡ true → Admitted own lent c
   admitted h = go (verdict own lent c) refl h
@@ -65,18 +65,18 @@ module _ (own : Own) (lent : List ℕ) (c : Candidate) where
 
 pub finite : (own : Own) (c : Neighbour) → rankTooHigh own c ≡ false → resulting own c < infinite
 unfolding rankTooHigh
-finite own c h = leb-false infinite (resulting own c) (or-parts (eqb (c .rank .0) infinite) (leb infinite (resulting own c)) h .1)
+finite own c h = leb-false infinite (resulting own c) (neither (eqb (c .rank .0) infinite) (leb infinite (resulting own c)) h .1)
 
 -- units are at least one, and so is MinHopRankIncrease
 in-range : (c : Neighbour) → outOfRange c ≡ false → (1 ≤ c .sp) × (1 ≤ c .rf)
 unfolding outOfRange
 in-range c h =
-    let (a, x) = or-parts _ (ltb 3 (c .nodetype)) h in
-    let (b, x) = or-parts _ (ltb 7 (c .lql)) a in
-    let (d, x) = or-parts _ (ltb 5 (c .sr)) b in
-    let (e, x) = or-parts _ (ltb 4 (c .rf)) d in
-    let (f, r) = or-parts _ (ltb (c .rf) 1) e in
-    let (s, x) = or-parts (ltb (c .sp) 1) (ltb 9 (c .sp)) f in
+    let (a, x) = neither _ (ltb 3 (c .nodetype)) h in
+    let (b, x) = neither _ (ltb 7 (c .lql)) a in
+    let (d, x) = neither _ (ltb 5 (c .sr)) b in
+    let (e, x) = neither _ (ltb 4 (c .rf)) d in
+    let (f, r) = neither _ (ltb (c .rf) 1) e in
+    let (s, x) = neither (ltb (c .sp) 1) (ltb 9 (c .sp)) f in
     (ltb-false (c .sp) 1 s, ltb-false (c .rf) 1 r)
 
 product : (a b : ℕ) → 1 ≤ a → 1 ≤ b → 1 ≤ a * b

@@ -1,0 +1,76 @@
+-- `split` and `join` undo each other.
+use mathlib.Core.Path.{_≡_, refl}
+use Prim.Native.Nat.{ℕ, zero, suc, _≤_}
+use native.Mathlib.Nat.{le-of-suc-le-suc, not-suc-le-zero}
+use mathlib.Core.Bool.{Bool, true, false, cond}
+use mathlib.Core.List.{List, [], _∷_, _++_}
+use mathlib.Core.Option.{Option, none, some, Option·none-ne-some}
+use native.Mathlib.Omega.{arith}
+use lib.ListN.{length, take, drop, length-append, take-append-drop, length-drop}
+use lib.Seq.{length-take-le, take-append-seam, drop-append-seam}
+use lib.Dec.{leb}
+use borrow.Author.Tests.{le-leb, leb-true}
+use Rattle.model.specs.Object.{Object, object, before, splitUpTo, split, join}
+
+splitUpTo-join : (os : List Object) (k : ℕ) → length os ≤ k → splitUpTo k (join os) ≡ some os
+unfolding splitUpTo join
+splitUpTo-join [] zero h = refl
+splitUpTo-join [] (suc k) h = refl
+splitUpTo-join (o ∷ os) zero h = absurd (not-suc-le-zero h)
+splitUpTo-join (o ∷ os) (suc k) h =
+    let fits : length (o .body) ≤ length (o .body ++ join os) = simp length-append (omega arith) in
+    rw (le-leb (length (o .body)) (length (o .body ++ join os)) fits, take-append-seam (o .body) (join os), drop-append-seam (o .body) (join os), splitUpTo-join os k (le-of-suc-le-suc h))
+
+length-join : (os : List Object) → length os ≤ length (join os)
+unfolding join
+length-join [] = omega arith
+length-join (o ∷ os) = let ih = length-join os in omega (arith, length-append (o .body) (join os))
+
+pub split-join : (os : List Object) → split (join os) ≡ some os
+unfolding split
+split-join os = splitUpTo-join os (length (join os)) (length-join os)
+
+-- what a step of `splitUpTo` says where it gives objects
+step : (n : ℕ) (rest : List ℕ) (o : Object) (r : Option (List Object)) (os : List Object) (b : Bool) → leb n (length rest) ≡ b
+    → cond b (before o r) none ≡ some os → (n ≤ length rest) × (t : List Object) × (r ≡ some t) × (os ≡ o ∷ t)
+step n rest o none os true q e = absurd (Option·none-ne-some os e)
+step n rest o (some t) os true q e = (leb-true n (length rest) q, t, refl, cc)
+step n rest o r os false q e = absurd (Option·none-ne-some os e)
+
+join-splitUpTo : (k : ℕ) (bs : List ℕ) (os : List Object) → splitUpTo k bs ≡ some os → join os ≡ bs
+unfolding splitUpTo join
+join-splitUpTo zero [] os e = let q : os ≡ [] = cc in rw q
+join-splitUpTo zero (t ∷ bs) os e = cc
+join-splitUpTo (suc k) [] os e = let q : os ≡ [] = cc in rw q
+join-splitUpTo (suc k) (t ∷ []) os e = cc
+join-splitUpTo (suc k) (t ∷ f ∷ []) os e = cc
+join-splitUpTo (suc k) (t ∷ f ∷ m ∷ []) os e = cc
+join-splitUpTo (suc k) (t ∷ f ∷ m ∷ n ∷ rest) os e =
+    let (h, ts, q, s) = step n rest _ _ os (leb n (length rest)) refl e in
+    let ih : join ts ≡ drop n rest = join-splitUpTo k (drop n rest) ts q in
+    rw (s, ih, take-append-drop n rest, length-take-le n rest)
+
+pub join-split : (bs : List ℕ) (os : List Object) → split bs ≡ some os → join os ≡ bs
+unfolding split
+join-split bs os e = join-splitUpTo (length bs) bs os e
+
+-- two limits that are at least the length give the same
+splitUpTo-enough : (k j : ℕ) (bs : List ℕ) → length bs ≤ k → length bs ≤ j → splitUpTo k bs ≡ splitUpTo j bs
+unfolding splitUpTo
+splitUpTo-enough zero zero bs h i = refl
+splitUpTo-enough zero (suc j) [] h i = refl
+splitUpTo-enough zero (suc j) (t ∷ bs) h i = absurd (not-suc-le-zero h)
+splitUpTo-enough (suc k) zero [] h i = refl
+splitUpTo-enough (suc k) zero (t ∷ bs) h i = absurd (not-suc-le-zero i)
+splitUpTo-enough (suc k) (suc j) [] h i = refl
+splitUpTo-enough (suc k) (suc j) (t ∷ []) h i = refl
+splitUpTo-enough (suc k) (suc j) (t ∷ f ∷ []) h i = refl
+splitUpTo-enough (suc k) (suc j) (t ∷ f ∷ m ∷ []) h i = refl
+splitUpTo-enough (suc k) (suc j) (t ∷ f ∷ m ∷ n ∷ rest) h i =
+    rw (splitUpTo-enough k j (drop n rest) (rw length-drop (omega arith)) (rw length-drop (omega arith)))
+
+-- `split` unfolded at an object
+pub split-step : (t f m n : ℕ) (rest : List ℕ)
+    → split (t ∷ f ∷ m ∷ n ∷ rest) ≡ cond (leb n (length rest)) (before (object t f m (take n rest)) (split (drop n rest))) none
+unfolding split splitUpTo
+split-step t f m n rest = rw (splitUpTo-enough (suc (suc (suc (length rest)))) (length (drop n rest)) (drop n rest) (rw length-drop (omega arith)) (omega arith))

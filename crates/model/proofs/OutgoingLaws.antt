@@ -1,0 +1,65 @@
+-- When a container is sent on, and which.
+use mathlib.Core.Path.{_≡_, refl, sym, ap, _∙_}
+use Prim.Native.Nat.{ℕ, zero, suc, _+_, _≤_, _<_}
+use native.Mathlib.Omega.{arith}
+use mathlib.Core.Bool.{Bool, true, false}
+use mathlib.Core.List.{List, [], _∷_}
+use mathlib.Core.Option.{Option, none, some}
+use lib.ListN.{length, getElem?}
+use borrow.Author.Tests.{ltb-false}
+use Rattle.model.specs.declared.Rank.{Rank}
+use Rattle.model.specs.declared.Own.{Own}
+use Rattle.model.specs.declared.Neighbour.{Neighbour}
+use Rattle.model.specs.declared.Candidate.{Candidate}
+use Rattle.model.specs.declared.Choice.{Choice}
+use Rattle.model.specs.declared.Choice.the-variants.{Nobody, Parent}
+use Rattle.model.specs.Object.{Object, join, container}
+use Rattle.model.specs.Reading.{wellFormed, reading}
+use Rattle.model.specs.Verdict.{containerOf}
+use Rattle.model.specs.Update.{update, tooLong, leafAnswer}
+use Rattle.model.specs.Choice.{Outgoing, noContainer, nextHop, unlessLeaf, outgoing, leafOf, choiceOf, call}
+use Rattle.model.specs.Exact.{someHas, leafTests}
+use Rattle.model.proofs.BoolLaws.{neither}
+use Rattle.model.proofs.Exact.{leaf-exact}
+use Rattle.model.proofs.Selection.{parented}
+
+-- nothing is sent for want of a parent, or by a leaf answer; or the chosen parent's objects, updated, are
+pub data Sending (own : Own) (cs : List Candidate) (lent : List ℕ) (ch : Choice) : Outgoing → Type 0 where
+  nobody : ch ≡ Nobody → Sending own cs lent ch (noContainer 0)
+  asLeaf : (k : ℕ) → Sending own cs lent ch (noContainer (suc k))
+  sends : (p : ℕ) (r : Rank) (c : Candidate) (os : List Object) → ch ≡ Parent p r → getElem? cs p ≡ some c → reading (containerOf lent c) ≡ wellFormed os
+      → leafAnswer own (c .neighbour) os ≡ 0 → Sending own cs lent ch (nextHop (container (update own (c .neighbour) os)))
+
+sending-parent : (own : Own) (cs : List Candidate) (lent : List ℕ) (p : ℕ) (r : Rank) (c : Candidate) (os : List Object) → getElem? cs p ≡ some c
+    → reading (containerOf lent c) ≡ wellFormed os → Sending own cs lent (Parent p r) (outgoing own cs lent (Parent p r))
+unfolding outgoing
+sending-parent own cs lent p r c os s e = rw (s, e) (go (leafAnswer own (c .neighbour) os) refl)
+  where
+    go : (k : ℕ) → leafAnswer own (c .neighbour) os ≡ k → Sending own cs lent (Parent p r) (unlessLeaf k (container (update own (c .neighbour) os)))
+    go zero l = sends p r c os refl s e l
+    go (suc k) l = asLeaf k
+
+pub sending : (own : Own) (cs : List Candidate) (lent out : List ℕ) → call own cs lent out .answer .refusal ≡ 0 → (ch : Choice) → choiceOf own cs lent ≡ ch
+    → Sending own cs lent ch (outgoing own cs lent ch)
+unfolding outgoing
+sending own cs lent out taken Nobody e = nobody refl
+sending own cs lent out taken (Parent p r) e =
+    let x = parented own cs lent out taken p r e (noContainer 0) in
+    sending-parent own cs lent p r (x .candidate) (x .objects) (x .stands) (x .read)
+
+-- what is sent fits a container
+pub fits : (own : Own) (c : Neighbour) (os : List Object) → leafAnswer own c os ≡ 0 → length (join (update own c os)) ≤ 255
+unfolding tooLong
+fits own c os e =
+    let (a, b) = neither (someHas (leafTests own c) os) _ (leaf-exact own c os .no-leaf .0 e) in
+    ltb-false 255 (length (join (update own c os))) (neither (tooLong own c os) false b .0)
+
+-- the leaf number of a parent with these objects
+pub leaf-of : (own : Own) (cs : List Candidate) (lent : List ℕ) (p : ℕ) (r : Rank) (c : Candidate) (os : List Object) → getElem? cs p ≡ some c
+    → reading (containerOf lent c) ≡ wellFormed os → leafOf (outgoing own cs lent (Parent p r)) ≡ leafAnswer own (c .neighbour) os
+unfolding outgoing
+leaf-of own cs lent p r c os s e = rw (s, e) (go (leafAnswer own (c .neighbour) os))
+  where
+    go : (k : ℕ) → leafOf (unlessLeaf k (container (update own (c .neighbour) os))) ≡ k
+    go zero = refl
+    go (suc k) = refl

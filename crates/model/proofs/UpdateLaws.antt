@@ -1,0 +1,216 @@
+-- The update for this hop against the cut, and the places of what is unknown.
+use mathlib.Core.Path.{_≡_, refl, sym, ap, _∙_}
+use Prim.Native.Nat.{ℕ, zero, suc, _*_, _/_, _%_, _≤_}
+use mathlib.Core.Bool.{Bool, true, false, cond}
+use mathlib.Core.List.{List, [], _∷_}
+use native.Mathlib.Omega.{arith}
+use lib.ListN.{length, take, drop, length-append, length-take}
+use lib.Dec.{ltb}
+use borrow.Author.Tests.{ltb-false, le-ltb}
+use Rattle.model.specs.declared.Own.{Own}
+use Rattle.model.specs.declared.Neighbour.{Neighbour}
+use Rattle.model.specs.Number.{_when_, firstCase, firstOf}
+use Rattle.model.specs.Object.{Object, object, fieldA, join, container, Kind, unknown, lql, node, scalar, Node, nsa, ne, hp, Scalar, throughput, latency, etx, known, kind, Role, constraint, recorded, aggregated, roleBits, roleOf, role}
+use Rattle.model.specs.Table.{row}
+use Rattle.model.specs.Update.{localValue, valueOr0, onTwo, clear0, clear1, combine1, aggregatedBody, constraintBody, recordedBody, addsNothing, nextBody, nextFlags, nextMode, updateObject, update, noEnergy, objectLeaf, tooLong, leafAnswer}
+use Rattle.model.specs.Cut.{cutBody, cutObject, keepIf, cut, cutContainer}
+use Rattle.model.specs.Unknown.{Each, nil, cons, ofConstraint, ofRecorded, ofAggregated, Kept, Placed}
+use Rattle.model.proofs.NumberLaws.{first-zero}
+use Rattle.model.proofs.CutLaws.{cutBody-byte0, cutBody-byte1, unknown-kind}
+use Rattle.model.proofs.ReadingLaws.{cutContainer-container}
+
+-- ---- the role stays
+
+role-at : (f m : ℕ) (p : Bool) (c r : ℕ) → f / 2 % 2 ≡ c → m / 128 % 2 ≡ r → roleOf (nextFlags (roleBits c r) p f) (nextMode (roleBits c r) m) ≡ roleBits c r
+unfolding roleOf
+role-at f m p (suc c) r e d = let q : f % 8 / 2 % 2 ≡ suc c = omega arith in rw q
+role-at f m true zero (suc r) e d = rw d
+role-at f m false zero (suc r) e d = let q : f / 4 % 2 * 4 / 2 % 2 ≡ 0 = omega arith in rw (q, d)
+role-at f m p zero zero e d = let q : f / 4 % 2 * 4 / 2 % 2 ≡ 0 = omega arith in rw (q, d)
+
+pub role-update : (own : Own) (c : Neighbour) (o : Object) → role (updateObject own c o) ≡ role o
+unfolding updateObject roleOf
+role-update own c o = role-at (o .flags) (o .mode) (addsNothing c (kind o)) (o .flags / 2 % 2) (o .mode / 128 % 2) refl refl
+
+-- ---- bodies
+
+take-onTwo : (f g : ℕ → ℕ) (b : List ℕ) → take 2 (onTwo f g b) ≡ onTwo f g (take 2 b)
+take-onTwo f g [] = refl
+take-onTwo f g (x ∷ []) = refl
+take-onTwo f g (x ∷ y ∷ t) = refl
+
+node-tlvs : (n : Node) → row (node n) .tlvs ≡ true
+node-tlvs nsa = refl
+node-tlvs ne = refl
+node-tlvs hp = refl
+
+scalar-tlvs : (s : Scalar) → row (scalar s) .tlvs ≡ false
+scalar-tlvs throughput = refl
+scalar-tlvs latency = refl
+scalar-tlvs etx = refl
+
+constraintBody-cut : (k : Kind) (b : List ℕ) → cond (row k .tlvs) (take 2 (constraintBody k b)) (constraintBody k b) ≡ constraintBody k (cond (row k .tlvs) (take 2 b) b)
+unfolding constraintBody
+constraintBody-cut unknown b = refl
+constraintBody-cut lql b = refl
+constraintBody-cut (node n) b = rw (node-tlvs n) (take-onTwo (clear0 n) (clear1 n) b)
+constraintBody-cut (scalar s) b = refl
+
+aggregatedBody-cut : (k : Kind) (a v : ℕ) (b : List ℕ)
+    → cond (row k .tlvs) (take 2 (aggregatedBody k a v b)) (aggregatedBody k a v b) ≡ aggregatedBody k a v (cond (row k .tlvs) (take 2 b) b)
+unfolding aggregatedBody
+aggregatedBody-cut unknown a v b = refl
+aggregatedBody-cut lql a v b = refl
+aggregatedBody-cut (node n) a v b = rw (node-tlvs n) (take-onTwo (clear0 n) (combine1 n a v) b)
+aggregatedBody-cut (scalar s) a v b = rw (scalar-tlvs s)
+
+nextBody-cut : (own : Own) (c : Neighbour) (k : Kind) (r : Role) (a : ℕ) (b : List ℕ)
+    → cutBody r (row k .tlvs) (nextBody own c k r a b) ≡ nextBody own c k r a (cutBody r (row k .tlvs) b)
+nextBody-cut own c k constraint a b = constraintBody-cut k b
+nextBody-cut own c k recorded a b = refl
+nextBody-cut own c k aggregated a b = aggregatedBody-cut k a (valueOr0 (localValue own c k)) b
+
+updateObject-cut : (own : Own) (c : Neighbour) (o : Object) → cutObject (updateObject own c o) ≡ updateObject own c (cutObject o)
+unfolding updateObject
+updateObject-cut own c o = rw (role-update own c o, nextBody-cut own c (kind o) (role o) (fieldA o) (o .body))
+
+pub update-cut : (own : Own) (c : Neighbour) (os : List Object) → cut (update own c os) ≡ update own c (cut os)
+unfolding cut updateObject
+update-cut own c [] = refl
+update-cut own c (o ∷ os) = go (known (kind o)) (update-cut own c os)
+  where
+    go : (b : Bool) → cut (update own c os) ≡ update own c (cut os)
+        → keepIf b (cutObject (updateObject own c o)) (cut (update own c os)) ≡ update own c (keepIf b (cutObject o) (cut os))
+    go true ih = rw (updateObject-cut own c o, ih)
+    go false ih = ih
+
+-- the container for the next hop, once cut, is that for the cut objects
+pub nextHop-cut : (own : Own) (c : Neighbour) (os : List Object) → cutContainer (container (update own c os)) ≡ container (update own c (cut os))
+nextHop-cut own c os = cutContainer-container (update own c os) ∙ ap container (update-cut own c os)
+
+-- ---- leaf answers
+
+noEnergy-cut : (r : Role) (k : Kind) (t : Bool) (b : List ℕ) → noEnergy k (cutBody r t b) ≡ noEnergy k b
+noEnergy-cut r unknown t b = refl
+noEnergy-cut r lql t b = refl
+noEnergy-cut r (node nsa) t b = refl
+noEnergy-cut r (node ne) t b = rw cutBody-byte0
+noEnergy-cut r (node hp) t b = refl
+noEnergy-cut r (scalar s) t b = refl
+
+objectLeaf-cut : (own : Own) (c : Neighbour) (o : Object) → objectLeaf own c (cutObject o) ≡ objectLeaf own c o
+unfolding objectLeaf
+objectLeaf-cut own c o = rw (noEnergy-cut, cutBody-byte1)
+
+leaves-cut : (own : Own) (c : Neighbour) (os : List Object) → firstOf (objectLeaf own c) os ≡ 0 → firstOf (objectLeaf own c) (cut os) ≡ 0
+unfolding firstOf cut
+leaves-cut own c [] e = refl
+leaves-cut own c (o ∷ os) e = let (h, t) = first-zero (objectLeaf own c o) (firstOf (objectLeaf own c) os) e in go (known (kind o)) h (leaves-cut own c os t)
+  where
+    go : (b : Bool) → objectLeaf own c o ≡ 0 → firstOf (objectLeaf own c) (cut os) ≡ 0 → firstOf (objectLeaf own c) (keepIf b (cutObject o) (cut os)) ≡ 0
+    go true h ih = rw (objectLeaf-cut own c o, h) ih
+    go false h ih = ih
+
+cutBody-length : (r : Role) (t : Bool) (b : List ℕ) → length (cutBody r t b) ≤ length b
+cutBody-length constraint true b = rw length-take (omega arith)
+cutBody-length constraint false b = omega arith
+cutBody-length recorded t b = omega arith
+cutBody-length aggregated true b = rw length-take (omega arith)
+cutBody-length aggregated false b = omega arith
+
+cut-length : (os : List Object) → length (join (cut os)) ≤ length (join os)
+unfolding cut join
+cut-length [] = omega arith
+cut-length (o ∷ os) = go (known (kind o)) (cut-length os)
+  where
+    go : (b : Bool) → length (join (cut os)) ≤ length (join os) → length (join (keepIf b (cutObject o) (cut os))) ≤ length (join (o ∷ os))
+    go true ih = simp length-append (omega (arith, cutBody-length (role o) (row (kind o) .tlvs) (o .body)))
+    go false ih = simp length-append (omega arith)
+
+fits : (n : ℕ) (b : Bool) → ltb 255 n ≡ b → firstCase (35 when b ∷ []) ≡ 0 → n ≤ 255
+fits n true q e = absurd (omega arith)
+fits n false q e = ltb-false 255 n q
+
+pub leafAnswer-cut : (own : Own) (c : Neighbour) (os : List Object) → leafAnswer own c os ≡ 0 → leafAnswer own c (cut os) ≡ 0
+unfolding leafAnswer tooLong
+leafAnswer-cut own c os e =
+    let (h, t) = first-zero (firstOf (objectLeaf own c) os) _ e in
+    let small = fits (length (join (update own c os))) _ refl t in
+    let less = cut-length (update own c os) in
+    rw (leaves-cut own c os h, ← update-cut own c os, le-ltb 255 (length (join (cut (update own c os)))) (omega arith))
+
+-- ---- places
+
+bitP-mod : (f : ℕ) → f % 8 / 4 % 2 ≡ f / 4 % 2
+bitP-mod f = omega arith
+
+kept-at : (t f m c r : ℕ) (b b′ : List ℕ) → f / 2 % 2 ≡ c → m / 128 % 2 ≡ r → b′ ≡ b
+    → Kept (object t f m b) (object t (nextFlags (roleBits c r) true f) (nextMode (roleBits c r) m) b′)
+unfolding roleOf
+kept-at t f m (suc c) r b b′ e d s = record {
+  body = s;
+  reserved = omega arith;
+  sameC = omega arith;
+  sameA = omega arith;
+  samePrec = omega arith;
+  header = rw e (ofConstraint (bitP-mod f) (omega arith) (omega arith));
+}
+kept-at t f m zero (suc r) b b′ e d s = record {
+  body = s;
+  reserved = refl;
+  sameC = sym e;
+  sameA = refl;
+  samePrec = refl;
+  header = rw (e, d) (ofRecorded refl refl refl);
+}
+kept-at t f m zero zero b b′ e d s = record {
+  body = s;
+  reserved = omega arith;
+  sameC = omega arith;
+  sameA = refl;
+  samePrec = refl;
+  header = rw (e, d) (ofAggregated (omega arith) (omega arith) refl);
+}
+
+drop-onTwo : (f g : ℕ → ℕ) (b : List ℕ) → drop 2 (onTwo f g b) ≡ drop 2 b
+drop-onTwo f g [] = refl
+drop-onTwo f g (x ∷ []) = refl
+drop-onTwo f g (x ∷ y ∷ t) = refl
+
+nextBody-unknown : (own : Own) (c : Neighbour) (r : Role) (a : ℕ) (b : List ℕ) → nextBody own c unknown r a b ≡ b
+unfolding constraintBody recordedBody aggregatedBody
+nextBody-unknown own c constraint a b = refl
+nextBody-unknown own c recorded a b = refl
+nextBody-unknown own c aggregated a b = refl
+
+constraintBody-tlvs : (k : Kind) (b : List ℕ) → row k .tlvs ≡ true → drop 2 (constraintBody k b) ≡ drop 2 b
+unfolding constraintBody
+constraintBody-tlvs unknown b e = cc
+constraintBody-tlvs lql b e = cc
+constraintBody-tlvs (node n) b e = drop-onTwo (clear0 n) (clear1 n) b
+constraintBody-tlvs (scalar s) b e = refl
+
+aggregatedBody-tlvs : (k : Kind) (a v : ℕ) (b : List ℕ) → row k .tlvs ≡ true → drop 2 (aggregatedBody k a v b) ≡ drop 2 b
+unfolding aggregatedBody
+aggregatedBody-tlvs unknown a v b e = cc
+aggregatedBody-tlvs lql a v b e = cc
+aggregatedBody-tlvs (node n) a v b e = drop-onTwo (clear0 n) (combine1 n a v) b
+aggregatedBody-tlvs (scalar s) a v b e = let z = scalar-tlvs s in cc
+
+nextBody-tlvs : (own : Own) (c : Neighbour) (k : Kind) (r : Role) (a : ℕ) (b : List ℕ) → row k .tlvs ≡ true → (r ≡ recorded → ⊥)
+    → drop 2 (nextBody own c k r a b) ≡ drop 2 b
+nextBody-tlvs own c k constraint a b e h = constraintBody-tlvs k b e
+nextBody-tlvs own c k recorded a b e h = absurd (h refl)
+nextBody-tlvs own c k aggregated a b e h = aggregatedBody-tlvs k a (valueOr0 (localValue own c k)) b e
+
+placed : (own : Own) (c : Neighbour) (o : Object) → Placed o (updateObject own c o)
+unfolding updateObject roleOf
+placed own c o = record {
+  type = refl;
+  unknown = λ e. rw (unknown-kind (kind o) e) (kept-at (o .type) (o .flags) (o .mode) (o .flags / 2 % 2) (o .mode / 128 % 2) (o .body) _ refl refl (nextBody-unknown own c (role o) (fieldA o) (o .body)));
+  tlvs = nextBody-tlvs own c (kind o) (role o) (fieldA o) (o .body);
+}
+
+pub update-places : (own : Own) (c : Neighbour) (os : List Object) → Each Placed os (update own c os)
+update-places own c [] = nil
+update-places own c (o ∷ os) = cons (placed own c o) (update-places own c os)
