@@ -99,7 +99,7 @@ earlier-cut o p (e ∷ es) = go (known (kind e)) refl (earlier-cut o p es)
     go false q ih = rw (sameUse-unknown o e p q, ih)
 
 -- a known object at which no bar of 15 to 17 stands
-no-bar : (m s r : Bool) → firstCase (15 when (not m && not s) ∷ 16 when r ∷ 17 when m ∷ []) ≡ 0 → (m ≡ false) × (s ≡ true) × (r ≡ false)
+pub no-bar : (m s r : Bool) → firstCase (15 when (not m && not s) ∷ 16 when r ∷ 17 when m ∷ []) ≡ 0 → (m ≡ false) × (s ≡ true) × (r ≡ false)
 no-bar true s true e = absurd (omega arith)
 no-bar true s false e = absurd (omega arith)
 no-bar false false r e = absurd (omega arith)

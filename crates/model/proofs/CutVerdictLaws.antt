@@ -6,7 +6,9 @@ use mathlib.Core.List.{List}
 use Rattle.model.specs.declared.Own.{Own}
 use Rattle.model.specs.declared.Neighbour.{Neighbour}
 use Rattle.model.specs.declared.Candidate.{Candidate}
-use Rattle.model.specs.declared.Verdict.the-variants.{Barred}
+use borrow.Author.Tests.{not-false}
+use Rattle.model.specs.declared.Rank.{Rank}
+use Rattle.model.specs.declared.Verdict.the-variants.{Unbarred, Barred}
 use Rattle.model.specs.Number.{anyOf, firstOf, indexOf}
 use Rattle.model.specs.Object.{Object}
 use Rattle.model.specs.Reading.{noPlace, wellFormed, reading}
@@ -15,7 +17,8 @@ use Rattle.model.specs.Rank.{resulting}
 use Rattle.model.specs.Verdict.{outOfRange, containerOf, rankBar, judgeRank, judgeObjects, judgeReading, verdict, isUnbarred}
 use Rattle.model.specs.Cut.{cut}
 use Rattle.model.specs.Unknown.{CutBeside, holdsUnknown}
-use Rattle.model.proofs.BoolLaws.{or-right}
+use Rattle.model.proofs.BoolLaws.{neither, or-right}
+use Rattle.model.proofs.VerdictLaws.{Admitted, admitted}
 use Rattle.model.proofs.NumberLaws.{isGiven}
 use Rattle.model.proofs.CutLaws.{constraintBars-cut, constraintBars-same}
 use Rattle.model.proofs.ReadingLaws.{reading-objects, reading-cut}
@@ -73,3 +76,12 @@ module _ (own : Own) (lent lent′ : List ℕ) (c c′ : Candidate) (x : CutBesi
 
   pub resulting-same : resulting own (c .neighbour) ≡ resulting own (c′ .neighbour)
   resulting-same = rw (x .numbers)
+
+  -- unbarred in the first call, a candidate is unbarred in the second, with the same rank
+  pub unbarred-same : (k : Rank) → verdict own lent c ≡ Unbarred k → verdict own lent′ c′ ≡ Unbarred k
+  unbarred-same k e =
+      let f : isUnbarred (verdict own lent c) ≡ true = rw e in
+      let b : not (isUnbarred (verdict own lent′ c′)) ≡ false = neither (not (isUnbarred (verdict own lent′ c′))) (holdsUnknown lent c) (sym verdict-bars ∙ rw f) .0 in
+      let a = admitted own lent c f in
+      let a′ = admitted own lent′ c′ (not-false (isUnbarred (verdict own lent′ c′)) b) in
+      a′ .rank ∙ rw (← resulting-same) (sym (a .rank)) ∙ e

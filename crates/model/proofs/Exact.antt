@@ -23,7 +23,7 @@ use Rattle.model.specs.Rank.{resulting, rankTooHigh, aboveLowest}
 use Rattle.model.specs.Verdict.{outOfRange, containerOf, outside, rankCases, rankBar, judgeRank, judgeObjects, judgeReading, verdict, numberOf}
 use Rattle.model.specs.Update.{unknownAggregated, notAllowed, noValue, fullCount, leafCases, objectLeaf, tooLong, leafAnswer}
 use Rattle.model.specs.Choice.{badOwn, tooMany, currentPast, shortOutput, refusalCases, refusal, Result, unlessRefused, call}
-use Rattle.model.specs.Exact.{NoneOf, FirstToHold, someHas, FirstWith, RefusalExact, listOf, objectsIn, objectBars, constraintBars, barsTo14, barsTo17, barsTo19, BarAt, ConstraintAt, BarExact, leafTests, LeafAt, LeafExact}
+use Rattle.model.specs.Exact.{NoneOf, FirstToHold, someHas, FirstWith, RefusalExact, RefusalsExact, listOf, objectsIn, objectBars, constraintBars, barsTo14, barsTo17, barsTo19, BarAt, ConstraintAt, BarExact, BarsExact, leafTests, LeafAt, LeafExact}
 use Rattle.model.proofs.BoolLaws.{neither}
 use Rattle.model.proofs.NumberLaws.{exact, exact-none, isGiven, given-case, given-none, first-zero, firstOf-all, given-firstOf, first-with}
 
@@ -48,7 +48,7 @@ refusal-exact own n m = record {
 }
 
 -- every refusal, of every call
-pub refusals : (own : Own) (cs : List Candidate) (lent out : List ℕ) → RefusalExact own (length cs) (length out) (call own cs lent out .answer .refusal)
+pub refusals : RefusalsExact
 refusals own cs lent out = rw (refusal-is own cs lent out) (refusal-exact own (length cs) (length out))
 
 -- ---- the verdict as a chain of stages
@@ -349,8 +349,8 @@ module _ (own : Own) (lent : List ℕ) (c : Candidate) where
       let w : _≡_ {A = ℕ} 0 1 = cc in
       omega arith
 
-  pub bars : BarExact own lent c (verdict own lent c)
-  bars = record {
+  bar-exact : BarExact own lent c (verdict own lent c)
+  bar-exact = record {
     bar-11 = (
       λ e. exact cases 0 refl .0 (by-case (Barred 11 noPlace) 11 refl e),
       λ f. verdict-stages ∙ stage-11 (outOfRange n) (outside lent c) (misframed (containerOf lent c)) (runsPast (containerOf lent c)) rest f,
@@ -392,6 +392,10 @@ module _ (own : Own) (lent : List ℕ) (c : Candidate) where
           past19 x ∙ rw (rank-none own n .1 y, f .1),
     );
   }
+
+-- every bar, of every candidate
+pub bars : BarsExact
+bars = bar-exact
 
 -- ---- leaf answers
 

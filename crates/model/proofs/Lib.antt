@@ -15,3 +15,5 @@ pub mod UpdateLaws
 pub mod CutVerdictLaws
 pub mod Unknown
 pub mod SecondCall
+pub mod RoundTrip
+pub mod ShapeLaws

@@ -27,7 +27,7 @@ use Rattle.model.specs.Rank.{infinite, resulting}
 use Rattle.model.specs.Verdict.{outOfRange, containerOf, verdict, numberOf, placeOf, isUnbarred}
 use Rattle.model.specs.Choice.{badOwn, tooMany, currentOf, currentPast, shortOutput, notCurrent, criteria, precedes, choose, unbarredBit, bitsOf, Outgoing, noContainer, outgoing, noParent, parentOf, rankOf, leafOf, lengthOf, sixteen, Result, answered, unlessRefused, verdicts, choiceOf, call, refusal}
 use Rattle.model.specs.Exact.{NoneOf}
-use Rattle.model.specs.Selection.{hasParent, free, occurrences, Parented, Selection}
+use Rattle.model.specs.Selection.{hasParent, free, occurrences, Parented, Selection, SelectionHolds}
 use Rattle.model.proofs.BoolLaws.{neither}
 use Rattle.model.proofs.ListLaws.{at-below, at-map, map-at, getD-at, getD-past, any-map, length-filled}
 use Rattle.model.proofs.ChoiceLaws.{not-preceding, isParent, Preferred, choose-preferred, choose-unbarred, choose-parent, bit-at, bits-below, unbarredCount, ones-bits}
@@ -192,5 +192,6 @@ module _ (own : Own) (cs : List Candidate) (lent out : List ℕ) (taken : call o
       filled : (f : Verdict → ℕ) (d : ℕ) → length (sixteen d (map f vs)) ≡ 16
       filled f d = length-filled 16 (map f vs) d (rw (length-map vs f, length-map cs (verdict own lent)) (unrefused own cs lent out taken .few))
 
-  pub selection : Selection own cs lent (call own cs lent out .answer)
-  selection = rw (call-is own cs lent out taken) (by-choice (choiceOf own cs lent) refl)
+-- every call that is not refused
+pub selection : SelectionHolds
+selection own cs lent out taken = rw (call-is own cs lent out taken) (by-choice own cs lent out taken (choiceOf own cs lent) refl)

@@ -26,7 +26,7 @@ use Rattle.model.proofs.ListLaws.{map-at}
 use Rattle.model.proofs.BoolLaws.{neither}
 use Rattle.model.proofs.ReadingLaws.{container-objects}
 use Rattle.model.proofs.UpdateLaws.{nextHop-cut, leafAnswer-cut, update-places}
-use Rattle.model.proofs.CutVerdictLaws.{read-second, verdict-bars, verdict-same, resulting-same}
+use Rattle.model.proofs.CutVerdictLaws.{read-second, verdict-bars, verdict-same, resulting-same, unbarred-same}
 use Rattle.model.proofs.CallLaws.{call-is, no-leaf, named, barred-at}
 use Rattle.model.proofs.Exact.{refusal-is}
 use Rattle.model.proofs.ChoiceLaws.{choose-unbarred, placeless, without-places, choose-placeless, bits-placeless, numbers-placeless}
@@ -40,11 +40,11 @@ each-length : {A : Type 0} (R : A → A → Type 0) (xs ys : List A) → Each R 
 each-length R xs ys nil = refl
 each-length R xs ys (cons {s = s} {t = t} r rs) = ap suc (each-length R s t rs)
 
-module _ (own : Own) (lent lent′ : List ℕ) where
-  ranks-same : (cs cs′ : List Candidate) → Each (CutBeside lent lent′) cs cs′ → Each (λ c c′. resulting own (c .neighbour) ≡ resulting own (c′ .neighbour)) cs cs′
-  ranks-same cs cs′ nil = nil
-  ranks-same cs cs′ (cons {a = c} {b = c′} {s = ds} {t = ds′} x xs) = cons (resulting-same own lent lent′ c c′ x) (ranks-same ds ds′ xs)
+each-map : {A : Type 0} {R S : A → A → Type 0} → ((a b : A) → R a b → S a b) → (xs ys : List A) → Each R xs ys → Each S xs ys
+each-map f xs ys nil = nil
+each-map f xs ys (cons {a = a} {b = b} {s = s} {t = t} r rs) = cons (f a b r) (each-map f s t rs)
 
+module _ (own : Own) (lent lent′ : List ℕ) where
   verdicts-same : (cs cs′ : List Candidate) → Each (CutBeside lent lent′) cs cs′ → anyOf (holdsUnknown lent) cs ≡ false
       → map placeless (verdicts own cs lent) ≡ map placeless (verdicts own cs′ lent′)
   verdicts-same cs cs′ nil s = refl
@@ -151,8 +151,10 @@ module _ (own : Own) (cs cs′ : List Candidate) (lent lent′ out out′ : List
 
 pub demand3 : Demand3Holds
 demand3 own cs cs′ lent lent′ out out′ beside taken room = record {
+  unrefused = second-taken own cs cs′ lent lent′ out out′ beside taken room;
   bars = bars own cs cs′ lent lent′ out out′ beside taken room;
-  ranks = ranks-same own lent lent′ cs cs′ beside;
+  ranks = each-map (resulting-same own lent lent′) cs cs′ beside;
+  unbarred = each-map (unbarred-same own lent lent′) cs cs′ beside;
   same = same-answers own cs cs′ lent lent′ out out′ beside taken room;
   passes = passes own cs cs′ lent lent′ out out′ beside taken room;
   places = places own cs cs′ lent lent′ out out′ beside taken room;

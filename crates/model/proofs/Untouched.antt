@@ -15,7 +15,7 @@ use Rattle.model.specs.Object.{join}
 use Rattle.model.specs.Update.{update}
 use Rattle.model.specs.Choice.{Outgoing, outgoing, Result, answered, refusedBy, unlessRefused, verdicts, choiceOf, call, refusal}
 use Rattle.model.specs.Selection.{hasParent}
-use Rattle.model.specs.Untouched.{PassedOn, passedOn, Untouched}
+use Rattle.model.specs.Untouched.{PassedOn, passedOn, Untouched, UntouchedHolds}
 use Rattle.model.proofs.ChoiceLaws.{isParent}
 use Rattle.model.proofs.Exact.{refusal-is}
 use Rattle.model.proofs.Selection.{has-parent}
@@ -64,7 +64,7 @@ module _ (own : Own) (cs : List Candidate) (lent out : List ℕ) (room : 257 ≤
       }
 
 -- every call
-pub untouched : (own : Own) (cs : List Candidate) (lent out : List ℕ) → Untouched out (call own cs lent out)
+pub untouched : UntouchedHolds
 unfolding call
 untouched own cs lent out = go (refusal own (length cs) (length out)) refl
   where

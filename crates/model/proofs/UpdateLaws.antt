@@ -172,7 +172,7 @@ kept-at t f m zero zero b b′ e d s = record {
   header = rw (e, d) (ofAggregated (omega arith) (omega arith) refl);
 }
 
-drop-onTwo : (f g : ℕ → ℕ) (b : List ℕ) → drop 2 (onTwo f g b) ≡ drop 2 b
+pub drop-onTwo : (f g : ℕ → ℕ) (b : List ℕ) → drop 2 (onTwo f g b) ≡ drop 2 b
 drop-onTwo f g [] = refl
 drop-onTwo f g (x ∷ []) = refl
 drop-onTwo f g (x ∷ y ∷ t) = refl

@@ -5,7 +5,7 @@ use mathlib.Core.Bool.{Bool, true, false}
 use mathlib.Core.List.{List, [], _∷_, _++_, map}
 use mathlib.Core.Logic.{_↔_}
 use mathlib.Core.Option.{Option, none, some}
-use lib.ListN.{getElem?}
+use lib.ListN.{length, getElem?}
 use Rattle.model.specs.declared.Rank.{Rank}
 use Rattle.model.specs.declared.Summary.{Summary}
 use Rattle.model.specs.declared.Own.{Own}
@@ -18,9 +18,10 @@ use Rattle.model.specs.Object.{Object, Standing, standings}
 use Rattle.model.specs.Reading.{noPlace, misframed, dataObjects, runsPast, malformed, repeated, misused}
 use Rattle.model.specs.Constraint.{summary, unknownMandatory, unmet}
 use Rattle.model.specs.Rank.{resulting, rankTooHigh, aboveLowest}
-use Rattle.model.specs.Verdict.{outOfRange, containerOf, outside}
+use Rattle.model.specs.Verdict.{outOfRange, containerOf, outside, verdict}
 use Rattle.model.specs.Update.{unknownAggregated, notAllowed, noValue, fullCount, tooLong}
-use Rattle.model.specs.Choice.{badOwn, tooMany, currentPast, shortOutput}
+use Rattle.model.specs.Choice.{badOwn, tooMany, currentPast, shortOutput, call}
+use Rattle.model.specs.Selection.{Parented}
 
 -- none of some conditions holds
 abbrev pub NoneOf : List Bool → Type 0
@@ -50,6 +51,10 @@ pub record RefusalExact (own : Own) (count room given : ℕ) : Type 0 where
   pub refusal-3 : (given ≡ 3) ↔ FirstToHold (badOwn own ∷ tooMany count ∷ []) (currentPast own count)
   pub refusal-4 : (given ≡ 4) ↔ FirstToHold (badOwn own ∷ tooMany count ∷ currentPast own count ∷ []) (shortOutput room)
   pub unrefused : (given ≡ 0) ↔ NoneOf (badOwn own ∷ tooMany count ∷ currentPast own count ∷ shortOutput room ∷ [])
+
+-- of every call
+abbrev pub RefusalsExact : Type 0
+RefusalsExact = (own : Own) (cs : List Candidate) (lent out : List ℕ) → RefusalExact own (length cs) (length out) (call own cs lent out .answer .refusal)
 
 -- ---- bars 11 to 21
 
@@ -106,6 +111,10 @@ pub record BarExact (own : Own) (lent : List ℕ) (c : Candidate) (given : Verdi
   pub unbarred : (r : Rank) → (given ≡ Unbarred r)
       ↔ (NoneOf (barsTo19 lent c ++ (rankTooHigh own (c .neighbour) ∷ aboveLowest own (c .neighbour) ∷ [])) × (r ≡ record { 0 = resulting own (c .neighbour) }))
 
+-- of every candidate
+abbrev pub BarsExact : Type 0
+BarsExact = (own : Own) (lent : List ℕ) (c : Candidate) → BarExact own lent c (verdict own lent c)
+
 -- ---- leaf answers 31 to 35
 
 abbrev pub leafTests : Own → Neighbour → List (Object → Bool)
@@ -122,3 +131,8 @@ pub record LeafExact (own : Own) (c : Neighbour) (os : List Object) (given : ℕ
   pub leaf-34 : (given ≡ 34) ↔ LeafAt own c os (unknownAggregated ∷ notAllowed ∷ noValue own c ∷ []) fullCount
   pub leaf-35 : (given ≡ 35) ↔ FirstToHold (someHas (leafTests own c) os ∷ []) (tooLong own c os)
   pub no-leaf : (given ≡ 0) ↔ NoneOf (someHas (leafTests own c) os ∷ tooLong own c os ∷ [])
+
+-- of every parent that a call names
+abbrev pub LeavesExact : Type 0
+LeavesExact = (own : Own) (cs : List Candidate) (lent out : List ℕ) → call own cs lent out .answer .refusal ≡ 0
+    → (p : Parented own cs lent (call own cs lent out .answer)) → LeafExact own (p .candidate .neighbour) (p .objects) (call own cs lent out .answer .leaf)

@@ -9,8 +9,8 @@ pub mod Update
 pub mod Choice
 pub mod Listing
 pub mod Cut
-pub mod Exact
 pub mod Selection
+pub mod Exact
 pub mod Untouched
 pub mod ReadBack
 pub mod Local

@@ -13,14 +13,14 @@ use Rattle.model.specs.Object.{Object, fieldA, Scalar, scalar, node, hp,
 use Rattle.model.specs.Reading.{wellFormed, reading}
 use Rattle.model.specs.Constraint.{linkValue}
 use Rattle.model.specs.Update.{mostOf, updateObject, update}
-use Rattle.model.specs.Choice.{Result}
+use Rattle.model.specs.Choice.{call}
 use Rattle.model.specs.Selection.{Parented}
 use Rattle.model.specs.Untouched.{PassedOn, passedOn}
 
 -- the container passed on is well-formed, and holds the parent's objects, each updated
-abbrev pub ReadsBack : Own → List Candidate → (lent : List ℕ) → Result → Type 0
-ReadsBack own cs lent r =
-    PassedOn r → (p : Parented own cs lent (r .answer)) → reading (passedOn r) ≡ wellFormed (update own (p .candidate .neighbour) (p .objects))
+abbrev pub ReadsBack : Type 0
+ReadsBack = (own : Own) (cs : List Candidate) (lent out : List ℕ) → PassedOn (call own cs lent out) → (p : Parented own cs lent (call own cs lent out .answer))
+    → reading (passedOn (call own cs lent out)) ≡ wellFormed (update own (p .candidate .neighbour) (p .objects))
 
 -- a sum that stops at the field's maximum, and below it is the whole-number sum
 pub record Sum (most x v sum : ℕ) : Type 0 where

@@ -1,7 +1,7 @@
 -- Demand 2: the choice of a parent, and what a call that is not refused reports.
 use mathlib.Core.Path.{_≡_}
 use Prim.Native.Nat.{ℕ, _+_, _*_, _/_, _%_, _^_, _≤_, _<_}
-use mathlib.Core.Bool.{Bool, true, false, not}
+use mathlib.Core.Bool.{Bool, true, false, cond, not}
 use mathlib.Core.List.{List, [], _∷_}
 use mathlib.Core.Option.{Option, none, some}
 use lib.ListN.{length, getD, getElem?}
@@ -17,7 +17,7 @@ use Rattle.model.specs.Object.{Object}
 use Rattle.model.specs.Reading.{noPlace, wellFormed, reading}
 use Rattle.model.specs.Rank.{infinite, resulting}
 use Rattle.model.specs.Verdict.{containerOf, verdict, numberOf, placeOf, isUnbarred}
-use Rattle.model.specs.Choice.{currentOf, noParent}
+use Rattle.model.specs.Choice.{currentOf, noParent, call}
 
 -- a parent is named
 abbrev pub hasParent : Answer → Bool
@@ -30,7 +30,7 @@ free own lent c = isUnbarred (verdict own lent c)
 -- how many numbers of a list are n
 unfoldable pub occurrences : (n : ℕ) → List ℕ → ℕ
 occurrences n [] = 0
-occurrences n (m ∷ ms) = mathlib.Core.Bool.cond (eqb m n) 1 0 + occurrences n ms
+occurrences n (m ∷ ms) = cond (eqb m n) 1 0 + occurrences n ms
 
 -- what holds of the parent that an answer names
 pub record Parented (own : Own) (cs : List Candidate) (lent : List ℕ) (a : Answer) : Type 0 where
@@ -67,3 +67,7 @@ pub record Selection (own : Own) (cs : List Candidate) (lent : List ℕ) (a : An
   -- the number reported is the count of those bits, and of the verdicts 10
   pub count-bits : a .count ≡ ones (a .bits)
   pub count-verdicts : a .count ≡ occurrences 10 (a .verdicts)
+
+-- of every call that is not refused
+abbrev pub SelectionHolds : Type 0
+SelectionHolds = (own : Own) (cs : List Candidate) (lent out : List ℕ) → call own cs lent out .answer .refusal ≡ 0 → Selection own cs lent (call own cs lent out .answer)

@@ -8,6 +8,8 @@ use lib.ListN.{length, drop, getD, getElem?}
 use lib.Dec.{eqb}
 use Rattle.model.specs.declared.Own.{Own}
 use Rattle.model.specs.declared.Candidate.{Candidate}
+use Rattle.model.specs.declared.Rank.{Rank}
+use Rattle.model.specs.declared.Verdict.the-variants.{Unbarred}
 use Rattle.model.specs.declared.Answer.{Answer}
 use Rattle.model.specs.Number.{anyOf}
 use Rattle.model.specs.Object.{Object, bitP, bitC, bitO, bitR, fieldA, fieldPrec, split, known, kind, Role, constraint, recorded, aggregated, role}
@@ -15,7 +17,7 @@ use Rattle.model.specs.Table.{row}
 use Rattle.model.specs.Reading.{wellFormed, reading}
 use Rattle.model.specs.Constraint.{unknownMandatory}
 use Rattle.model.specs.Rank.{resulting}
-use Rattle.model.specs.Verdict.{containerOf, outside}
+use Rattle.model.specs.Verdict.{containerOf, outside, verdict}
 use Rattle.model.specs.Choice.{Result, call}
 use Rattle.model.specs.Cut.{cutContainer}
 use Rattle.model.specs.Exact.{objectsIn}
@@ -94,12 +96,15 @@ pub record SameAnswers (a a′ : Answer) : Type 0 where
 
 -- ---- demand 3
 
--- `r` is the first call's result, over `cs` and `lent`; `r′` the second's, over the cut containers
-pub record Demand3 (own : Own) (cs cs′ : List Candidate) (lent : List ℕ) (r r′ : Result) : Type 0 where
+-- `r` is the first call's result, over `cs` and `lent`; `r′` the second's, over `cs′` and `lent′`, which hold the cut containers
+pub record Demand3 (own : Own) (cs cs′ : List Candidate) (lent lent′ : List ℕ) (r r′ : Result) : Type 0 where
+  -- the second call is not refused either
+  pub unrefused : r′ .answer .refusal ≡ 0
   -- a candidate is barred in the first call exactly when it is barred in the second or its container holds an unknown mandatory constraint
   pub bars : (i : ℕ) (c : Candidate) → getElem? cs i ≡ some c → barredAt r i ≡ barredAt r′ i || holdsUnknown lent c
-  -- its resulting rank is the same in both
+  -- its resulting rank is the same in both: by the formula, and in the verdict where it is unbarred
   pub ranks : Each (λ c c′. resulting own (c .neighbour) ≡ resulting own (c′ .neighbour)) cs cs′
+  pub unbarred : Each (λ c c′. (k : Rank) → verdict own lent c ≡ Unbarred k → verdict own lent′ c′ ≡ Unbarred k) cs cs′
   -- if no candidate's container holds such a constraint, the answers are the same; if the first passes a container on, so does the
   -- second, and the first's container, once cut, equals the second's byte for byte
   pub same : anyOf (holdsUnknown lent) cs ≡ false → SameAnswers (r .answer) (r′ .answer)
@@ -110,7 +115,7 @@ pub record Demand3 (own : Own) (cs cs′ : List Candidate) (lent : List ℕ) (r 
 -- for every call that is not refused and every second call beside it
 abbrev pub Demand3Holds : Type 0
 Demand3Holds = (own : Own) (cs cs′ : List Candidate) (lent lent′ out out′ : List ℕ) → Each (CutBeside lent lent′) cs cs′
-    → call own cs lent out .answer .refusal ≡ 0 → length out′ ≡ length out → Demand3 own cs cs′ lent (call own cs lent out) (call own cs′ lent′ out′)
+    → call own cs lent out .answer .refusal ≡ 0 → length out′ ≡ length out → Demand3 own cs cs′ lent lent′ (call own cs lent out) (call own cs′ lent′ out′)
 
 -- well-formed containers always have such a second call
 abbrev pub SecondCallExists : Type 0

@@ -4,7 +4,9 @@ use Prim.Native.Nat.{ℕ, _+_}
 use mathlib.Core.Bool.{Bool, true, false}
 use mathlib.Core.List.{List, [], _∷_, _++_}
 use lib.ListN.{length, take, drop}
-use Rattle.model.specs.Choice.{Result}
+use Rattle.model.specs.declared.Own.{Own}
+use Rattle.model.specs.declared.Candidate.{Candidate}
+use Rattle.model.specs.Choice.{Result, call}
 use Rattle.model.specs.Selection.{hasParent}
 
 -- document 01's word: a container is passed on if there is a parent and the leaf number is 0
@@ -26,3 +28,7 @@ pub record Untouched (out : List ℕ) (r : Result) : Type 0 where
   pub written : PassedOn r → (data′ : List ℕ) × (r .answer .length ≡ 2 + length data′) × (passedOn r ≡ 2 ∷ length data′ ∷ data′)
   pub rest : drop (r .answer .length) (r .output) ≡ drop (r .answer .length) out
   pub size : length (r .output) ≡ length out
+
+-- of every call
+abbrev pub UntouchedHolds : Type 0
+UntouchedHolds = (own : Own) (cs : List Candidate) (lent out : List ℕ) → Untouched out (call own cs lent out)
