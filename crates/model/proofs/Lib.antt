@@ -17,3 +17,5 @@ pub mod Unknown
 pub mod SecondCall
 pub mod RoundTrip
 pub mod ShapeLaws
+pub mod ReadBack
+pub mod Local

@@ -6,6 +6,7 @@ use mathlib.Core.Bool.{Bool, true, false}
 use mathlib.Core.List.{List, [], _∷_}
 use mathlib.Core.Option.{Option, none, some}
 use lib.ListN.{length, getElem?}
+use lib.Seq.{take-append-seam}
 use borrow.Author.Tests.{ltb-false}
 use Rattle.model.specs.declared.Rank.{Rank}
 use Rattle.model.specs.declared.Own.{Own}
@@ -17,10 +18,14 @@ use Rattle.model.specs.Object.{Object, join, container}
 use Rattle.model.specs.Reading.{wellFormed, reading}
 use Rattle.model.specs.Verdict.{containerOf}
 use Rattle.model.specs.Update.{update, tooLong, leafAnswer}
-use Rattle.model.specs.Choice.{Outgoing, noContainer, nextHop, unlessLeaf, outgoing, leafOf, choiceOf, call}
-use Rattle.model.specs.Exact.{someHas, leafTests}
+use Rattle.model.specs.Choice.{Outgoing, noContainer, nextHop, unlessLeaf, outgoing, noParent, leafOf, choiceOf, call}
+use Rattle.model.specs.Selection.{Parented}
+use Rattle.model.specs.Exact.{someHas, leafTests, LeavesExact}
+use Rattle.model.specs.Untouched.{passedOn}
 use Rattle.model.proofs.BoolLaws.{neither}
 use Rattle.model.proofs.Exact.{leaf-exact}
+use Rattle.model.proofs.ListLaws.{at-below}
+use Rattle.model.proofs.CallLaws.{call-is, unrefused}
 use Rattle.model.proofs.Selection.{parented}
 
 -- nothing is sent for want of a parent, or by a leaf answer; or the chosen parent's objects, updated, are
@@ -55,7 +60,7 @@ fits own c os e =
     ltb-false 255 (length (join (update own c os))) (neither (tooLong own c os) false b .0)
 
 -- the leaf number of a parent with these objects
-pub leaf-of : (own : Own) (cs : List Candidate) (lent : List ℕ) (p : ℕ) (r : Rank) (c : Candidate) (os : List Object) → getElem? cs p ≡ some c
+leaf-of : (own : Own) (cs : List Candidate) (lent : List ℕ) (p : ℕ) (r : Rank) (c : Candidate) (os : List Object) → getElem? cs p ≡ some c
     → reading (containerOf lent c) ≡ wellFormed os → leafOf (outgoing own cs lent (Parent p r)) ≡ leafAnswer own (c .neighbour) os
 unfolding outgoing
 leaf-of own cs lent p r c os s e = rw (s, e) (go (leafAnswer own (c .neighbour) os))
@@ -63,3 +68,44 @@ leaf-of own cs lent p r c os s e = rw (s, e) (go (leafAnswer own (c .neighbour) 
     go : (k : ℕ) → leafOf (unlessLeaf k (container (update own (c .neighbour) os))) ≡ k
     go zero = refl
     go (suc k) = refl
+
+-- the container that is sent for them
+container-of : (own : Own) (cs : List Candidate) (lent : List ℕ) (p : ℕ) (r : Rank) (c : Candidate) (os : List Object) → getElem? cs p ≡ some c
+    → reading (containerOf lent c) ≡ wellFormed os → leafAnswer own (c .neighbour) os ≡ 0 → outgoing own cs lent (Parent p r) ≡ nextHop (container (update own (c .neighbour) os))
+unfolding outgoing
+container-of own cs lent p r c os s e l = rw (s, e, l)
+
+module _ (own : Own) (cs : List Candidate) (lent out : List ℕ) (taken : call own cs lent out .answer .refusal ≡ 0)
+    (x : Parented own cs lent (call own cs lent out .answer)) where
+  -- the parent that the answer names is the one chosen
+  record Chosen : Type 0 where
+    position : ℕ
+    rank : Rank
+    choice : choiceOf own cs lent ≡ Parent position rank
+    stands : getElem? cs position ≡ some (x .candidate)
+
+  chosen : Chosen
+  chosen = go (choiceOf own cs lent) refl
+    where
+      go : (ch : Choice) → choiceOf own cs lent ≡ ch → Chosen
+      go Nobody e =
+          let s : getElem? cs noParent ≡ some (x .candidate) = rw (call-is own cs lent out taken, e) at (x .stands) in
+          let b = at-below cs noParent (x .candidate) s in
+          let u = unrefused own cs lent out taken in
+          absurd (omega (arith, u .few))
+      go (Parent p r) e = record { position = p; rank = r; choice = e; stands = rw (call-is own cs lent out taken, e) at (x .stands) }
+
+  pub leaf-is : call own cs lent out .answer .leaf ≡ leafAnswer own (x .candidate .neighbour) (x .objects)
+  leaf-is =
+      let h = chosen in
+      rw (call-is own cs lent out taken, h .choice) (leaf-of own cs lent (h .position) (h .rank) (x .candidate) (x .objects) (h .stands) (x .read))
+
+  pub passed-is : call own cs lent out .answer .leaf ≡ 0 → passedOn (call own cs lent out) ≡ container (update own (x .candidate .neighbour) (x .objects))
+  passed-is l =
+      let h = chosen in
+      let o = container-of own cs lent (h .position) (h .rank) (x .candidate) (x .objects) (h .stands) (x .read) (sym leaf-is ∙ l) in
+      rw (call-is own cs lent out taken, h .choice, o) (take-append-seam (container (update own (x .candidate .neighbour) (x .objects))) _)
+
+-- every leaf answer, of every parent
+pub leaves : LeavesExact
+leaves own cs lent out taken x = rw (leaf-is own cs lent out taken x) (leaf-exact own (x .candidate .neighbour) (x .objects))

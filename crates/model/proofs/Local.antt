@@ -1,0 +1,20 @@
+-- A verdict depends on nothing but the candidate, its bytes and own numbers.
+use mathlib.Core.Path.{_≡_, refl, sym, ap, _∙_}
+use Prim.Native.Nat.{ℕ}
+use mathlib.Core.List.{List}
+use Rattle.model.specs.declared.Own.{Own}
+use Rattle.model.specs.declared.Candidate.{Candidate}
+use Rattle.model.specs.Verdict.{verdict, numberOf, placeOf}
+use Rattle.model.specs.Local.{Alike, Local}
+use Rattle.model.proofs.Selection.{selection}
+
+alike-verdict : (own : Own) (lent lent′ : List ℕ) (c c′ : Candidate) → Alike lent lent′ c c′ → verdict own lent c ≡ verdict own lent′ c′
+unfolding verdict
+alike-verdict own lent lent′ c c′ a = rw (a .numbers, a .inside, a .bytes)
+
+pub local : Local
+local own cs cs′ lent lent′ out out′ taken taken′ i i′ c c′ s s′ a =
+    let (n, p) = selection own cs lent out taken .verdict-at i c s in
+    let (n′, p′) = selection own cs′ lent′ out′ taken′ .verdict-at i′ c′ s′ in
+    let e = alike-verdict own lent lent′ c c′ a in
+    (n ∙ ap numberOf e ∙ sym n′, p ∙ ap placeOf e ∙ sym p′)
