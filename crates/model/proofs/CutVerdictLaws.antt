@@ -18,7 +18,7 @@ use Rattle.model.specs.Verdict.{outOfRange, containerOf, rankBar, judgeR
 use Rattle.model.specs.Cut.{cut}
 use Rattle.model.specs.Unknown.{CutBeside, holdsUnknown}
 use Rattle.model.proofs.BoolLaws.{neither, or-right}
-use Rattle.model.proofs.VerdictLaws.{Admitted, admitted}
+use Rattle.model.proofs.VerdictLaws.{admitted}
 use Rattle.model.proofs.NumberLaws.{isGiven}
 use Rattle.model.proofs.CutLaws.{constraintBars-cut, constraintBars-same}
 use Rattle.model.proofs.ReadingLaws.{reading-objects, reading-cut}

@@ -17,15 +17,15 @@ use Rattle.model.specs.declared.Verdict.{Verdict}
 use Rattle.model.specs.declared.Verdict.the-variants.{Unbarred, Barred}
 use Rattle.model.specs.Number.{anyOf, Case, _when_, firstCase, first, firstOf, indexOf}
 use Rattle.model.specs.Object.{Object, Standing, standings}
-use Rattle.model.specs.Reading.{noPlace, misframed, dataObjects, isNone, runsPast, malformed, repeated, misused, objectCases, objectBar, Reading, refused, wellFormed, readAs, readObjects, reading}
+use Rattle.model.specs.Reading.{noPlace, misframed, dataObjects, isNone, runsPast, malformed, repeated, misused, objectCases, objectBar, refused, readAs, readObjects, reading}
 use Rattle.model.specs.Constraint.{summary, unknownMandatory, unmet, constraintCases, constraintBar}
 use Rattle.model.specs.Rank.{resulting, rankTooHigh, aboveLowest}
 use Rattle.model.specs.Verdict.{outOfRange, containerOf, outside, rankCases, rankBar, judgeRank, judgeObjects, judgeReading, verdict, numberOf}
 use Rattle.model.specs.Update.{unknownAggregated, notAllowed, noValue, fullCount, leafCases, objectLeaf, tooLong, leafAnswer}
-use Rattle.model.specs.Choice.{badOwn, tooMany, currentPast, shortOutput, refusalCases, refusal, Result, unlessRefused, call}
-use Rattle.model.specs.Exact.{NoneOf, FirstToHold, someHas, FirstWith, RefusalExact, RefusalsExact, listOf, objectsIn, objectBars, constraintBars, barsTo14, barsTo17, barsTo19, BarAt, ConstraintAt, BarExact, BarsExact, leafTests, LeafAt, LeafExact}
+use Rattle.model.specs.Choice.{refusalCases, refusal, Result, unlessRefused, call}
+use Rattle.model.specs.Exact.{NoneOf, FirstToHold, someHas, RefusalExact, RefusalsExact, RefusedAnswer, RefusedAnswers, listOf, objectsIn, objectBars, constraintBars, barsTo14, barsTo17, barsTo19, BarAt, ConstraintAt, BarExact, BarsExact, leafTests, LeafAt, LeafExact}
 use Rattle.model.proofs.BoolLaws.{neither}
-use Rattle.model.proofs.NumberLaws.{exact, exact-none, isGiven, given-case, given-none, first-zero, firstOf-all, given-firstOf, first-with}
+use Rattle.model.proofs.NumberLaws.{exact, exact-none, isGiven, given-case, given-none, firstOf-all, given-firstOf, first-with}
 
 -- ---- refusals
 
@@ -36,6 +36,14 @@ refused-is (suc n) r out e = refl
 pub refusal-is : (own : Own) (cs : List Candidate) (lent out : List ℕ) → call own cs lent out .answer .refusal ≡ refusal own (length cs) (length out)
 unfolding call
 refusal-is own cs lent out = refused-is (refusal own (length cs) (length out)) _ out refl
+
+pub refused-answers : RefusedAnswers
+unfolding call
+refused-answers own cs lent out h = go (refusal own (length cs) (length out)) _ refl h
+  where
+    go : (n : ℕ) (r : Result) → r .answer .refusal ≡ 0 → (unlessRefused n r out .answer .refusal ≡ 0 → ⊥) → RefusedAnswer (unlessRefused n r out .answer)
+    go zero r e h = absurd (h e)
+    go (suc n) r e h = record { parent = refl; rank = refl; verdicts = refl; places = refl; bits = refl; count = refl; leaf = refl; size = refl }
 
 refusal-exact : (own : Own) (n m : ℕ) → RefusalExact own n m (refusal own n m)
 unfolding refusal

@@ -1,5 +1,5 @@
 -- A verdict depends on nothing but the candidate, its bytes and own numbers.
-use mathlib.Core.Path.{_≡_, refl, sym, ap, _∙_}
+use mathlib.Core.Path.{_≡_, sym, ap, _∙_}
 use Prim.Native.Nat.{ℕ}
 use mathlib.Core.List.{List}
 use Rattle.model.specs.declared.Own.{Own}

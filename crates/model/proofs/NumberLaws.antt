@@ -1,18 +1,18 @@
 -- The first case that holds, and the first element that a test numbers.
-use mathlib.Core.Path.{_≡_, refl, sym, ap, _∙_}
+use mathlib.Core.Path.{_≡_, refl, ap, _∙_}
 use Prim.Native.Nat.{ℕ, zero, suc, _<_}
 use native.Mathlib.Nat.{not-suc-le-zero}
 use native.Mathlib.Omega.{arith}
 use mathlib.Core.Bool.{Bool, true, false, cond, not, _&&_, _||_, false≢true, true≢false}
-use mathlib.Core.List.{List, [], _∷_, _++_, map}
+use mathlib.Core.List.{List, [], _∷_, map}
 use mathlib.Core.Logic.{_↔_}
-use mathlib.Core.Option.{Option, none, some, Option·none-ne-some}
+use mathlib.Core.Option.{some, Option·none-ne-some}
 use lib.ListN.{take, getD, getElem?}
 use lib.Dec.{eqb}
-use borrow.Author.Tests.{eqb-false, eq-eqb, not-true}
-use Rattle.model.specs.Number.{anyOf, Case, _when_, firstCase, first, firstOf, indexAfter, indexOf}
+use borrow.Author.Tests.{eqb-false, not-true}
+use Rattle.model.specs.Number.{anyOf, Case, firstCase, first, firstOf, indexAfter, indexOf}
 use Rattle.model.proofs.BoolLaws.{both}
-use Rattle.model.specs.Exact.{NoneOf, FirstToHold, someHas, FirstWith}
+use Rattle.model.specs.Exact.{NoneOf, FirstToHold, FirstWith}
 
 -- ---- the first case that holds
 

@@ -1,17 +1,17 @@
 -- The written container reads back as the updated objects; no sum wraps.
-use mathlib.Core.Path.{_≡_, refl, sym, ap, _∙_}
-use Prim.Native.Nat.{ℕ, zero, suc, _+_, _-_, _^_, _≤_, _<_, min, max}
+use mathlib.Core.Path.{_≡_, refl, _∙_}
+use Prim.Native.Nat.{ℕ, _+_, _^_, _≤_, _<_, min}
 use native.Mathlib.Omega.{arith}
 use mathlib.Core.List.{List, [], _∷_}
 use lib.ListN.{length, getD}
 use Rattle.model.specs.declared.Quantity.the-variants.{Known}
 use Rattle.model.specs.declared.Own.{Own}
 use Rattle.model.specs.declared.Neighbour.{Neighbour}
-use Rattle.model.specs.Number.{number, bigEndian}
-use Rattle.model.specs.Object.{Object, fieldA, Scalar, throughput, latency, etx, scalar, node, hp, kind, aggregated, role}
+use Rattle.model.specs.Number.{number}
+use Rattle.model.specs.Object.{Object, fieldA, Scalar, throughput, latency, etx, scalar, hp, kind, aggregated, role}
 use Rattle.model.specs.Constraint.{linkValue}
 use Rattle.model.specs.Update.{localValue, combine, onTwo, clear0, combine1, widthOf, mostOf, aggregatedBody, updateObject}
-use Rattle.model.specs.ReadBack.{ReadsBack, Sum, Aggregates, NoSumWraps, CountsHop}
+use Rattle.model.specs.ReadBack.{ReadsBack, Aggregates, NoSumWraps, CountsHop}
 use Rattle.model.proofs.RoundTrip.{number-bigEndian}
 use Rattle.model.proofs.ReadingLaws.{reading-objects, reading-container}
 use Rattle.model.proofs.ShapeLaws.{objectBars-update}

@@ -1,13 +1,11 @@
 -- Reading and writing undo each other.
 use mathlib.Core.Path.{_≡_, refl, sym, ap, _∙_}
 use Prim.Native.Nat.{ℕ, zero, suc, _+_, _*_, _/_, _%_, _^_, _<_}
-use native.Mathlib.Nat.{add-zero, mul-one, mod-one, mod-eq-of-lt, pow-suc, pow-succ', add-mul, mul-assoc, add-assoc, one-le-pow}
+use native.Mathlib.Nat.{mod-one, mod-eq-of-lt, pow-succ', add-mul, mul-assoc, add-assoc, one-le-pow}
 use native.Mathlib.Omega.{arith}
-use mathlib.Core.List.{List, [], _∷_}
 use lib.Arith.{mod-mul}
 use lib.ListN.{length}
 use Rattle.model.specs.Number.{numberFrom, number, bigEndian}
-use Rattle.model.specs.Object.{Object}
 use Rattle.model.specs.RoundTrip.{RoundTrip}
 use Rattle.model.proofs.ObjectLaws.{split-join, join-split}
 use Rattle.model.proofs.ReadingLaws.{reading-objects}

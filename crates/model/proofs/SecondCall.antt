@@ -13,10 +13,10 @@ use Rattle.model.specs.Unknown.{Each, nil, cons, WellFormed, CutBeside, 
 
 -- a candidate with its container at the head of the lent run, and one with bytes put before the run
 abbrev atHead : List ℕ → Candidate → Candidate
-atHead bs c = record { neighbour = c .neighbour; start = 0; length = length bs }
+atHead bs c = record { neighbour = c .neighbour; start = 0; size = length bs }
 
 abbrev behind : (count : ℕ) → Candidate → Candidate
-behind n c = record { neighbour = c .neighbour; start = n + c .start; length = c .length }
+behind n c = record { neighbour = c .neighbour; start = n + c .start; size = c .size }
 
 head-beside : (lent rest : List ℕ) (c : Candidate) → WellFormed lent c
     → CutBeside lent (cutContainer (containerOf lent c) ++ rest) c (atHead (cutContainer (containerOf lent c)) c)
@@ -32,12 +32,12 @@ head-beside lent rest c w =
 behind-beside : (lent bs rest : List ℕ) (cs ds : List Candidate) → Each (CutBeside lent rest) cs ds → Each (CutBeside lent (bs ++ rest)) cs (map (behind (length bs)) ds)
 behind-beside lent bs rest cs ds nil = nil
 behind-beside lent bs rest cs ds (cons {b = d} {s = cs′} {t = ds′} x xs) =
-    let h = ltb-false (length rest) (d .start + d .length) (x .inside) in
+    let h = ltb-false (length rest) (d .start + d .size) (x .inside) in
     cons
     record {
       whole = x .whole;
       numbers = x .numbers;
-      inside = le-ltb (length (bs ++ rest)) (length bs + d .start + d .length) (simp length-append (omega arith));
+      inside = le-ltb (length (bs ++ rest)) (length bs + d .start + d .size) (simp length-append (omega arith));
       cut = rw drop-append-add (x .cut);
     }
     (behind-beside lent bs rest cs′ ds′ xs)

@@ -1,15 +1,13 @@
 -- What a call reports that is not refused: the parent, the verdicts, the bits and their count.
 use mathlib.Core.Path.{_≡_, refl, sym, ap, _∙_}
 use Prim.Native.Nat.{ℕ, zero, suc, _+_, _-_, _≤_, _<_}
-use native.Mathlib.Nat.{add-zero}
 use native.Mathlib.Omega.{arith}
-use mathlib.Core.Bool.{Bool, true, false, cond, not, _&&_, _||_, false≢true, true≢false}
+use mathlib.Core.Bool.{Bool, true, false, cond, not, false≢true, true≢false}
 use mathlib.Core.List.{List, [], _∷_, _++_, map}
-use mathlib.Core.Option.{Option, none, some, Option·some-injective, Option·none-ne-some}
+use mathlib.Core.Option.{none, some}
 use lib.ListN.{length, getD, getElem?, replicate, length-map}
-use lib.Dec.{leb, ltb, eqb}
-use lib.Count.{ones}
-use borrow.Author.Tests.{ltb-false, eqb-true, eqb-false, ne-eqb, eq-eqb}
+use lib.Dec.{eqb}
+use borrow.Author.Tests.{eqb-true, ne-eqb, eq-eqb}
 use Rattle.model.specs.declared.Quantity.{Quantity}
 use Rattle.model.specs.declared.Quantity.the-variants.{Known, Unknown}
 use Rattle.model.specs.declared.Rank.{Rank}
@@ -19,20 +17,15 @@ use Rattle.model.specs.declared.Verdict.{Verdict}
 use Rattle.model.specs.declared.Verdict.the-variants.{Unbarred, Barred}
 use Rattle.model.specs.declared.Choice.{Choice}
 use Rattle.model.specs.declared.Choice.the-variants.{Nobody, Parent}
-use Rattle.model.specs.declared.Answer.{Answer}
-use Rattle.model.specs.Number.{isSet, anyOf}
-use Rattle.model.specs.Object.{Object}
-use Rattle.model.specs.Reading.{noPlace, wellFormed, reading}
+use Rattle.model.specs.Reading.{noPlace}
 use Rattle.model.specs.Rank.{infinite, resulting}
-use Rattle.model.specs.Verdict.{outOfRange, containerOf, verdict, numberOf, placeOf, isUnbarred}
-use Rattle.model.specs.Choice.{badOwn, tooMany, currentOf, currentPast, shortOutput, notCurrent, criteria, precedes, choose, unbarredBit, bitsOf, Outgoing, noContainer, outgoing, noParent, parentOf, rankOf, leafOf, lengthOf, sixteen, Result, answered, unlessRefused, verdicts, choiceOf, call, refusal}
-use Rattle.model.specs.Exact.{NoneOf}
+use Rattle.model.specs.Verdict.{verdict, numberOf, placeOf, isUnbarred}
+use Rattle.model.specs.Choice.{currentOf, notCurrent, criteria, precedes, unbarredBit, Outgoing, outgoing, noParent, parentOf, rankOf, leafOf, sizeOf, sixteen, answered, verdicts, choiceOf, call, refusal}
 use Rattle.model.specs.Selection.{hasParent, free, occurrences, Parented, Selection, SelectionHolds}
-use Rattle.model.proofs.BoolLaws.{neither}
 use Rattle.model.proofs.ListLaws.{at-below, at-map, map-at, getD-at, getD-past, any-map, length-filled}
 use Rattle.model.proofs.ChoiceLaws.{not-preceding, isParent, Preferred, choose-preferred, choose-unbarred, choose-parent, bit-at, bits-below, unbarredCount, ones-bits}
-use Rattle.model.proofs.CallLaws.{call-is, Unrefused, unrefused}
-use Rattle.model.proofs.VerdictLaws.{Admitted, admitted, ten, finite, rises}
+use Rattle.model.proofs.CallLaws.{call-is, unrefused}
+use Rattle.model.proofs.VerdictLaws.{admitted, ten, finite, rises}
 
 -- ---- the criteria
 
@@ -179,7 +172,7 @@ module _ (own : Own) (cs : List Candidate) (lent out : List ℕ) (taken : call o
       go (Parent p r) e h = parented p r e (outgoing own cs lent (Parent p r))
 
       none : (ch : Choice) → choiceOf own cs lent ≡ ch → hasParent (answered vs ch (outgoing own cs lent ch) out .answer) ≡ false
-          → (rankOf ch .0 ≡ infinite) × (leafOf (outgoing own cs lent ch) ≡ 0) × (lengthOf (outgoing own cs lent ch) ≡ 0)
+          → (rankOf ch .0 ≡ infinite) × (leafOf (outgoing own cs lent ch) ≡ 0) × (sizeOf (outgoing own cs lent ch) ≡ 0)
       none Nobody e h = (refl, refl, refl)
       none (Parent p r) e h = absurd (true≢false (sym (has-parent (Parent p r) e) ∙ h))
 

@@ -1,22 +1,22 @@
 -- Updated for this hop, well-formed objects are well-formed.
-use mathlib.Core.Path.{_≡_, refl, sym, ap, _∙_}
-use Prim.Native.Nat.{ℕ, zero, suc, _+_, _-_, _*_, _/_, _%_, _≤_}
+use mathlib.Core.Path.{_≡_, refl, sym, _∙_}
+use Prim.Native.Nat.{ℕ, zero, suc, _+_, _-_, _/_, _%_, _≤_}
 use native.Mathlib.Omega.{arith}
-use mathlib.Core.Bool.{Bool, true, false, cond, not, _&&_, _||_, false≢true, true≢false}
-use mathlib.Core.List.{List, [], _∷_, _++_, map}
+use mathlib.Core.Bool.{Bool, true, false, cond, _&&_}
+use mathlib.Core.List.{List, [], _∷_, _++_}
 use lib.ListN.{length, drop, length-append}
 use lib.Dec.{leb, ltb, eqb}
-use borrow.Author.Tests.{le-leb, leb-true, eq-eqb, eqb-true, not-false}
+use borrow.Author.Tests.{le-leb, eq-eqb, eqb-true}
 use Rattle.model.specs.declared.Quantity.{Quantity}
 use Rattle.model.specs.declared.Quantity.the-variants.{Known, Unknown}
 use Rattle.model.specs.declared.Own.{Own}
 use Rattle.model.specs.declared.Neighbour.{Neighbour}
-use Rattle.model.specs.Number.{anyOf, bigEndian, _when_, firstCase, firstOf}
-use Rattle.model.specs.Object.{Object, bitC, fieldA, standings, Kind, unknown, lql, node, scalar, Node, nsa, ne, hp, Scalar, throughput, latency, etx, known, kind, Role, constraint, recorded, aggregated, roleBits, roleOf, role}
+use Rattle.model.specs.Number.{anyOf, bigEndian, firstOf}
+use Rattle.model.specs.Object.{Object, bitC, fieldA, standings, Kind, unknown, lql, node, scalar, nsa, ne, hp, throughput, latency, etx, known, kind, Role, constraint, recorded, aggregated, roleBits, roleOf, role}
 use Rattle.model.specs.Table.{row}
 use Rattle.model.specs.Reading.{tlvsFit, shaped, cannotBe, sameUse, objectBar}
 use Rattle.model.specs.Constraint.{energyIn, linkValue}
-use Rattle.model.specs.Update.{localValue, valueOr0, combine, combine1, onTwo, clear0, clear1, mostOf, aggregatedBody, constraintBody, subObject, clearEach, ownEnergy, countLevel, countedBody, recordedBody, addsNothing, nextBody, nextFlags, nextMode, updateObject, update}
+use Rattle.model.specs.Update.{localValue, valueOr0, combine1, onTwo, clear0, clear1, aggregatedBody, constraintBody, subObject, clearEach, ownEnergy, countLevel, countedBody, recordedBody, addsNothing, nextBody, nextFlags, updateObject, update}
 use Rattle.model.proofs.BoolLaws.{both}
 use Rattle.model.proofs.NumberLaws.{first-zero}
 use Rattle.model.proofs.RoundTrip.{length-bigEndian}

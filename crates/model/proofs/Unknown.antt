@@ -15,7 +15,6 @@ use Rattle.model.specs.declared.Choice.the-variants.{Parent}
 use Rattle.model.specs.Number.{anyOf}
 use Rattle.model.specs.Object.{Object, container}
 use Rattle.model.specs.Reading.{wellFormed, reading}
-use Rattle.model.specs.Rank.{resulting}
 use Rattle.model.specs.Verdict.{containerOf, verdict, numberOf}
 use Rattle.model.specs.Update.{update, leafAnswer}
 use Rattle.model.specs.Choice.{currentOf, refusal, choose, bitsOf, nextHop, outgoing, parentOf, rankOf, answered, verdicts, choiceOf, sixteen, call}

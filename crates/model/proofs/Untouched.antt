@@ -1,21 +1,20 @@
 -- What a call leaves of the lent output.
-use mathlib.Core.Path.{_≡_, refl, sym, ap, _∙_}
-use Prim.Native.Nat.{ℕ, zero, suc, _+_, _-_, _≤_, _<_}
+use mathlib.Core.Path.{_≡_, refl, sym, _∙_}
+use Prim.Native.Nat.{ℕ, zero, suc, _≤_}
 use native.Mathlib.Omega.{arith}
-use mathlib.Core.Bool.{Bool, true, false, false≢true, true≢false}
-use mathlib.Core.List.{List, [], _∷_, _++_}
-use lib.ListN.{length, take, drop, length-append, length-drop}
+use mathlib.Core.Bool.{true, false, false≢true, true≢false}
+use mathlib.Core.List.{List, _∷_}
+use lib.ListN.{length, drop, length-append, length-drop}
 use lib.Seq.{take-append-seam, drop-append-seam}
 use Rattle.model.specs.declared.Own.{Own}
 use Rattle.model.specs.declared.Candidate.{Candidate}
 use Rattle.model.specs.declared.Verdict.{Verdict}
 use Rattle.model.specs.declared.Choice.{Choice}
-use Rattle.model.specs.declared.Choice.the-variants.{Nobody, Parent}
 use Rattle.model.specs.Object.{join}
 use Rattle.model.specs.Update.{update}
-use Rattle.model.specs.Choice.{Outgoing, outgoing, Result, answered, refusedBy, unlessRefused, verdicts, choiceOf, call, refusal}
+use Rattle.model.specs.Choice.{Outgoing, outgoing, answered, refusedBy, unlessRefused, verdicts, choiceOf, call, refusal}
 use Rattle.model.specs.Selection.{hasParent}
-use Rattle.model.specs.Untouched.{PassedOn, passedOn, Untouched, UntouchedHolds}
+use Rattle.model.specs.Untouched.{Untouched, UntouchedHolds}
 use Rattle.model.proofs.ChoiceLaws.{isParent}
 use Rattle.model.proofs.Exact.{refusal-is}
 use Rattle.model.proofs.Selection.{has-parent}

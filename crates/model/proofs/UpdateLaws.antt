@@ -1,7 +1,7 @@
 -- The update for this hop against the cut, and the places of what is unknown.
-use mathlib.Core.Path.{_≡_, refl, sym, ap, _∙_}
+use mathlib.Core.Path.{_≡_, refl, sym, ap, subst, _∙_}
 use Prim.Native.Nat.{ℕ, zero, suc, _*_, _/_, _%_, _≤_}
-use mathlib.Core.Bool.{Bool, true, false, cond}
+use mathlib.Core.Bool.{_&&_, and-true, Bool, true, false, cond}
 use mathlib.Core.List.{List, [], _∷_}
 use native.Mathlib.Omega.{arith}
 use lib.ListN.{length, take, drop, length-append, length-take}
@@ -10,11 +10,12 @@ use borrow.Author.Tests.{ltb-false, le-ltb}
 use Rattle.model.specs.declared.Own.{Own}
 use Rattle.model.specs.declared.Neighbour.{Neighbour}
 use Rattle.model.specs.Number.{_when_, firstCase, firstOf}
-use Rattle.model.specs.Object.{Object, object, fieldA, join, container, Kind, unknown, lql, node, scalar, Node, nsa, ne, hp, Scalar, throughput, latency, etx, known, kind, Role, constraint, recorded, aggregated, roleBits, roleOf, role}
+use Rattle.model.specs.Object.{Object, isRecorded, object, fieldA, join, container, Kind, unknown, lql, node, scalar, Node, nsa, ne, hp, Scalar, throughput, latency, etx, known, kind, Role, constraint, recorded, aggregated, roleBits, roleOf, role}
 use Rattle.model.specs.Table.{row}
 use Rattle.model.specs.Update.{localValue, valueOr0, onTwo, clear0, clear1, combine1, aggregatedBody, constraintBody, recordedBody, addsNothing, nextBody, nextFlags, nextMode, updateObject, update, noEnergy, objectLeaf, tooLong, leafAnswer}
 use Rattle.model.specs.Cut.{cutBody, cutObject, keepIf, cut, cutContainer}
-use Rattle.model.specs.Unknown.{Each, nil, cons, ofConstraint, ofRecorded, ofAggregated, Kept, Placed}
+use Rattle.model.specs.ReadBack.{HeaderNext, HeadersNext}
+use Rattle.model.specs.Unknown.{Each, nil, cons, Placed}
 use Rattle.model.proofs.NumberLaws.{first-zero}
 use Rattle.model.proofs.CutLaws.{cutBody-byte0, cutBody-byte1, unknown-kind}
 use Rattle.model.proofs.ReadingLaws.{cutContainer-container}
@@ -141,36 +142,26 @@ leafAnswer-cut own c os e =
 
 -- ---- places
 
+-- P beside the cleared reserved bits
 bitP-mod : (f : ℕ) → f % 8 / 4 % 2 ≡ f / 4 % 2
 bitP-mod f = omega arith
 
-kept-at : (t f m c r : ℕ) (b b′ : List ℕ) → f / 2 % 2 ≡ c → m / 128 % 2 ≡ r → b′ ≡ b
-    → Kept (object t f m b) (object t (nextFlags (roleBits c r) true f) (nextMode (roleBits c r) m) b′)
-unfolding roleOf
-kept-at t f m (suc c) r b b′ e d s = record {
-  body = s;
-  reserved = omega arith;
-  sameC = omega arith;
-  sameA = omega arith;
-  samePrec = omega arith;
-  header = rw e (ofConstraint (bitP-mod f) (omega arith) (omega arith));
-}
-kept-at t f m zero (suc r) b b′ e d s = record {
-  body = s;
-  reserved = refl;
-  sameC = sym e;
-  sameA = refl;
-  samePrec = refl;
-  header = rw (e, d) (ofRecorded refl refl refl);
-}
-kept-at t f m zero zero b b′ e d s = record {
-  body = s;
-  reserved = omega arith;
-  sameC = omega arith;
-  sameA = refl;
-  samePrec = refl;
-  header = rw (e, d) (ofAggregated (omega arith) (omega arith) refl);
-}
+-- header bits, by C and R
+header-at : (t f m c r : ℕ) (p : Bool) (b b′ : List ℕ) → f / 2 % 2 ≡ c → m / 128 % 2 ≡ r
+    → HeaderNext (object t f m b) (object t (nextFlags (roleBits c r) p f) (nextMode (roleBits c r) m) b′) (isRecorded (roleBits c r) && p)
+header-at t f m (suc c) r p b b′ e d =
+    let one : f / 2 % 2 ≡ 1 = omega arith in
+    record { type = refl; reserved = omega arith; nextP = bitP-mod f; sameC = omega arith; nextO = rw one (omega arith); nextR = rw one (omega arith); sameA = omega arith; samePrec = omega arith }
+header-at t f m zero (suc r) true b b′ e d =
+    record { type = refl; reserved = refl; nextP = refl; sameC = sym e; nextO = rw e; nextR = rw e; sameA = refl; samePrec = refl }
+header-at t f m zero (suc r) false b b′ e d =
+    record { type = refl; reserved = omega arith; nextP = omega arith; sameC = omega arith; nextO = rw e (omega arith); nextR = rw e; sameA = refl; samePrec = refl }
+header-at t f m zero zero p b b′ e d =
+    record { type = refl; reserved = omega arith; nextP = omega arith; sameC = omega arith; nextO = rw e (omega arith); nextR = rw e; sameA = refl; samePrec = refl }
+
+pub headers : HeadersNext
+unfolding updateObject roleOf
+headers own c o = header-at (o .type) (o .flags) (o .mode) (o .flags / 2 % 2) (o .mode / 128 % 2) (addsNothing c (kind o)) (o .body) _ refl refl
 
 pub drop-onTwo : (f g : ℕ → ℕ) (b : List ℕ) → drop 2 (onTwo f g b) ≡ drop 2 b
 drop-onTwo f g [] = refl
@@ -207,9 +198,12 @@ placed : (own : Own) (c : Neighbour) (o : Object) → Placed o (updateObject own
 unfolding updateObject roleOf
 placed own c o = record {
   type = refl;
-  unknown = λ e. rw (unknown-kind (kind o) e) (kept-at (o .type) (o .flags) (o .mode) (o .flags / 2 % 2) (o .mode / 128 % 2) (o .body) _ refl refl (nextBody-unknown own c (role o) (fieldA o) (o .body)));
+  unknown = λ e. record { body = rw (unknown-kind (kind o) e) (nextBody-unknown own c (role o) (fieldA o) (o .body)); header = always (unknown-kind (kind o) e) (headers own c o) };
   tlvs = nextBody-tlvs own c (kind o) (role o) (fieldA o) (o .body);
 }
+  where
+    always : kind o ≡ unknown → HeaderNext o (updateObject own c o) (isRecorded (role o) && addsNothing c (kind o)) → HeaderNext o (updateObject own c o) (isRecorded (role o))
+    always k h = subst (HeaderNext o (updateObject own c o)) (ap (λ s. isRecorded (role o) && addsNothing c s) k ∙ and-true (isRecorded (role o))) h
 
 pub update-places : (own : Own) (c : Neighbour) (os : List Object) → Each Placed os (update own c os)
 update-places own c [] = nil

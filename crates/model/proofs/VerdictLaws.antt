@@ -1,12 +1,12 @@
 -- What an unbarred verdict says, and that its number alone is 10.
-use mathlib.Core.Path.{_≡_, refl, sym, ap, _∙_}
-use Prim.Native.Nat.{ℕ, zero, suc, _+_, _*_, _≤_, _<_}
+use mathlib.Core.Path.{_≡_, refl, _∙_}
+use Prim.Native.Nat.{ℕ, _+_, _*_, _≤_, _<_}
 use native.Mathlib.Nat.{mul-le-mul}
 use native.Mathlib.Omega.{arith}
-use mathlib.Core.Bool.{Bool, true, false, cond, _||_, false≢true, true≢false}
+use mathlib.Core.Bool.{true, false, false≢true}
 use mathlib.Core.List.{List, [], _∷_}
 use lib.Dec.{leb, ltb, eqb}
-use borrow.Author.Tests.{ltb-false, leb-false, eqb-false, ne-eqb}
+use borrow.Author.Tests.{ltb-false, leb-false, ne-eqb}
 use Rattle.model.specs.declared.Rank.{Rank}
 use Rattle.model.specs.declared.Own.{Own}
 use Rattle.model.specs.declared.Neighbour.{Neighbour}
@@ -14,10 +14,10 @@ use Rattle.model.specs.declared.Candidate.{Candidate}
 use Rattle.model.specs.declared.Verdict.{Verdict}
 use Rattle.model.specs.declared.Verdict.the-variants.{Unbarred, Barred}
 use Rattle.model.specs.Object.{Object}
-use Rattle.model.specs.Reading.{noPlace, Reading, refused, wellFormed, reading}
+use Rattle.model.specs.Reading.{Reading, refused, wellFormed, reading}
 use Rattle.model.specs.Rank.{infinite, resulting, rankTooHigh, aboveLowest}
 use Rattle.model.specs.Verdict.{outOfRange, containerOf, outside, judgeReading, verdict, numberOf, isUnbarred}
-use Rattle.model.specs.Exact.{NoneOf, barsTo14, barsTo17, barsTo19}
+use Rattle.model.specs.Exact.{barsTo19}
 use Rattle.model.proofs.BoolLaws.{neither}
 use Rattle.model.proofs.Exact.{bars, none-parts, never-10}
 

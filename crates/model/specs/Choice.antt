@@ -1,6 +1,6 @@
 -- The call: refusals, the choice of a preferred parent, and the answer with the output bytes.
 use Prim.Native.Nat.{ℕ, zero, suc, _+_, _-_, _*_, _/_, _%_}
-use mathlib.Core.Bool.{Bool, true, false, cond, _&&_, _||_}
+use mathlib.Core.Bool.{Bool, false, cond, _&&_, _||_}
 use mathlib.Core.List.{List, [], _∷_, _++_, map}
 use mathlib.Core.Option.{Option, none, some}
 use lib.ListN.{length, drop, replicate, getElem?}
@@ -17,7 +17,7 @@ use Rattle.model.specs.declared.Choice.{Choice}
 use Rattle.model.specs.declared.Choice.the-variants.{Nobody, Parent}
 use Rattle.model.specs.declared.Answer.{Answer}
 use Rattle.model.specs.Number.{knownIf, satisfies, Case, _when_, firstCase}
-use Rattle.model.specs.Object.{Object, container}
+use Rattle.model.specs.Object.{container}
 use Rattle.model.specs.Reading.{noPlace, Reading, refused, wellFormed, reading}
 use Rattle.model.specs.Rank.{infinite}
 use Rattle.model.specs.Verdict.{containerOf, verdict, numberOf, placeOf}
@@ -136,9 +136,9 @@ abbrev pub leafOf : Outgoing → ℕ
 leafOf (noContainer n) = n
 leafOf (nextHop bs) = 0
 
-abbrev pub lengthOf : Outgoing → ℕ
-lengthOf (noContainer n) = 0
-lengthOf (nextHop bs) = length bs
+abbrev pub sizeOf : Outgoing → ℕ
+sizeOf (noContainer n) = 0
+sizeOf (nextHop bs) = length bs
 
 -- the lent output: untouched, or with the container in its first bytes
 abbrev pub outputOf : Outgoing → List ℕ → List ℕ
@@ -165,7 +165,7 @@ answered vs choice o out = record {
     bits = bitsOf vs;
     count = ones (bitsOf vs);
     leaf = leafOf o;
-    length = lengthOf o;
+    size = sizeOf o;
   };
   output = outputOf o out;
 }
@@ -181,7 +181,7 @@ refusedBy n out = record {
     bits = 0;
     count = 0;
     leaf = 0;
-    length = 0;
+    size = 0;
   };
   output = out;
 }

@@ -1,6 +1,6 @@
 -- Bars 18 and 19: the constraints that a candidate does not meet.
-use Prim.Native.Nat.{ℕ, zero, suc, _/_, _%_}
-use mathlib.Core.Bool.{Bool, true, false, cond, not, _&&_, _||_}
+use Prim.Native.Nat.{ℕ, _/_, _%_}
+use mathlib.Core.Bool.{Bool, false, cond, not, _&&_, _||_}
 use mathlib.Core.List.{List, [], _∷_}
 use lib.ListN.{getD}
 use lib.Dec.{leb, ltb, eqb}
@@ -9,7 +9,7 @@ use Rattle.model.specs.declared.Quantity.the-variants.{Known, Unknown}
 use Rattle.model.specs.declared.Summary.{Summary}
 use Rattle.model.specs.declared.Neighbour.{Neighbour}
 use Rattle.model.specs.Number.{isSet, knownIf, satisfies, isUnknown, number, Case, _when_, firstCase}
-use Rattle.model.specs.Object.{Object, bitO, Kind, unknown, lql, node, scalar, Node, nsa, ne, hp, Scalar, throughput, latency, etx, known, kind, isConstraint, isHp, role}
+use Rattle.model.specs.Object.{Object, bitO, Kind, unknown, lql, node, scalar, nsa, ne, hp, Scalar, throughput, latency, etx, known, kind, isConstraint, isHp, role}
 
 -- ---- what is known of a neighbour
 

@@ -5,8 +5,9 @@ use mathlib.Core.Bool.{Bool, true, false}
 use mathlib.Core.List.{List, [], _∷_, _++_, map}
 use mathlib.Core.Logic.{_↔_}
 use mathlib.Core.Option.{Option, none, some}
-use lib.ListN.{length, getElem?}
+use lib.ListN.{length, getElem?, replicate}
 use Rattle.model.specs.declared.Rank.{Rank}
+use Rattle.model.specs.declared.Answer.{Answer}
 use Rattle.model.specs.declared.Summary.{Summary}
 use Rattle.model.specs.declared.Own.{Own}
 use Rattle.model.specs.declared.Neighbour.{Neighbour}
@@ -17,10 +18,10 @@ use Rattle.model.specs.Number.{anyOf}
 use Rattle.model.specs.Object.{Object, Standing, standings}
 use Rattle.model.specs.Reading.{noPlace, misframed, dataObjects, runsPast, malformed, repeated, misused}
 use Rattle.model.specs.Constraint.{summary, unknownMandatory, unmet}
-use Rattle.model.specs.Rank.{resulting, rankTooHigh, aboveLowest}
+use Rattle.model.specs.Rank.{infinite, resulting, rankTooHigh, aboveLowest}
 use Rattle.model.specs.Verdict.{outOfRange, containerOf, outside, verdict}
 use Rattle.model.specs.Update.{unknownAggregated, notAllowed, noValue, fullCount, tooLong}
-use Rattle.model.specs.Choice.{badOwn, tooMany, currentPast, shortOutput, call}
+use Rattle.model.specs.Choice.{badOwn, tooMany, currentPast, shortOutput, noParent, call}
 use Rattle.model.specs.Selection.{Parented}
 
 -- none of some conditions holds
@@ -51,6 +52,20 @@ pub record RefusalExact (own : Own) (count room given : ℕ) : Type 0 where
   pub refusal-3 : (given ≡ 3) ↔ FirstToHold (badOwn own ∷ tooMany count ∷ []) (currentPast own count)
   pub refusal-4 : (given ≡ 4) ↔ FirstToHold (badOwn own ∷ tooMany count ∷ currentPast own count ∷ []) (shortOutput room)
   pub unrefused : (given ≡ 0) ↔ NoneOf (badOwn own ∷ tooMany count ∷ currentPast own count ∷ shortOutput room ∷ [])
+
+-- a refused call: no parent, no rank, all verdicts 0, no bits, count 0, length 0
+pub record RefusedAnswer (a : Answer) : Type 0 where
+  pub parent : a .parent ≡ noParent
+  pub rank : a .rank .0 ≡ infinite
+  pub verdicts : a .verdicts ≡ replicate 16 0
+  pub places : a .places ≡ replicate 16 noPlace
+  pub bits : a .bits ≡ 0
+  pub count : a .count ≡ 0
+  pub leaf : a .leaf ≡ 0
+  pub size : a .size ≡ 0
+
+abbrev pub RefusedAnswers : Type 0
+RefusedAnswers = (own : Own) (cs : List Candidate) (lent out : List ℕ) → (call own cs lent out .answer .refusal ≡ 0 → ⊥) → RefusedAnswer (call own cs lent out .answer)
 
 -- of every call
 abbrev pub RefusalsExact : Type 0

@@ -4,7 +4,7 @@ use mathlib.Core.Bool.{Bool, true, false, cond}
 use mathlib.Core.List.{List, [], _∷_, _++_}
 use mathlib.Core.Option.{Option, none, some}
 use lib.ListN.{length, take, drop, getD}
-use lib.Dec.{leb, eqb}
+use lib.Dec.{leb}
 
 -- an object: header byte 0, the type; byte 1, the flags; byte 2, the mode R, A and Prec; and the body, whose length is byte 3
 pub record Object : Type 0 where
@@ -128,6 +128,11 @@ abbrev pub isConstraint : Role → Bool
 isConstraint constraint = true
 isConstraint recorded = false
 isConstraint aggregated = false
+
+abbrev pub isRecorded : Role → Bool
+isRecorded constraint = false
+isRecorded recorded = true
+isRecorded aggregated = false
 
 abbrev pub isAggregated : Role → Bool
 isAggregated constraint = false

@@ -1,18 +1,18 @@
 -- Demand 2: the written container reads back as the received objects, each updated for this hop, no sum wrapped.
 use mathlib.Core.Path.{_≡_}
-use Prim.Native.Nat.{ℕ, _+_, _≤_, _<_, min, max}
-use mathlib.Core.List.{List, [], _∷_}
+use mathlib.Core.Bool.{Bool, cond, _&&_}
+use Prim.Native.Nat.{_/_, ℕ, _+_, _≤_, _<_, min, max}
+use mathlib.Core.List.{List}
 use lib.ListN.{length, getD}
-use Rattle.model.specs.declared.Quantity.{Quantity}
-use Rattle.model.specs.declared.Quantity.the-variants.{Known, Unknown}
+use Rattle.model.specs.declared.Quantity.the-variants.{Known}
 use Rattle.model.specs.declared.Own.{Own}
 use Rattle.model.specs.declared.Neighbour.{Neighbour}
 use Rattle.model.specs.declared.Candidate.{Candidate}
-use Rattle.model.specs.Number.{number}
-use Rattle.model.specs.Object.{Object, fieldA, Scalar, scalar, node, hp, kind, aggregated, role}
+use Rattle.model.specs.Number.{isSet, number}
+use Rattle.model.specs.Object.{Object, bitP, bitC, bitO, bitR, fieldA, fieldPrec, isRecorded, Scalar, scalar, node, hp, kind, aggregated, role}
 use Rattle.model.specs.Reading.{wellFormed, reading}
 use Rattle.model.specs.Constraint.{linkValue}
-use Rattle.model.specs.Update.{mostOf, updateObject, update}
+use Rattle.model.specs.Update.{mostOf, addsNothing, updateObject, update}
 use Rattle.model.specs.Choice.{call}
 use Rattle.model.specs.Selection.{Parented}
 use Rattle.model.specs.Untouched.{PassedOn, passedOn}
@@ -21,6 +21,21 @@ use Rattle.model.specs.Untouched.{PassedOn, passedOn}
 abbrev pub ReadsBack : Type 0
 ReadsBack = (own : Own) (cs : List Candidate) (lent out : List ℕ) → PassedOn (call own cs lent out) → (p : Parented own cs lent (call own cs lent out .answer))
     → reading (passedOn (call own cs lent out)) ≡ wellFormed (update own (p .candidate .neighbour) (p .objects))
+
+-- header bits as received and as sent on: reserved bits are cleared, O when C=0, R when C=1; P is kept, or set; nothing else changes
+pub record HeaderNext (o p : Object) (setP : Bool) : Type 0 where
+  pub type : p .type ≡ o .type
+  pub reserved : p .flags / 8 ≡ 0
+  pub nextP : bitP p ≡ cond setP 1 (bitP o)
+  pub sameC : bitC p ≡ bitC o
+  pub nextO : bitO p ≡ cond (isSet (bitC o)) (bitO o) 0
+  pub nextR : bitR p ≡ cond (isSet (bitC o)) 0 (bitR o)
+  pub sameA : fieldA p ≡ fieldA o
+  pub samePrec : fieldPrec p ≡ fieldPrec o
+
+-- P is set in a recorded metric to which this hop adds nothing
+abbrev pub HeadersNext : Type 0
+HeadersNext = (own : Own) (c : Neighbour) (o : Object) → HeaderNext o (updateObject own c o) (isRecorded (role o) && addsNothing c (kind o))
 
 -- a sum that stops at the field's maximum, and below it is the whole-number sum
 pub record Sum (most x v sum : ℕ) : Type 0 where

@@ -6,7 +6,7 @@ use mathlib.Core.Option.{Option, none, some}
 use lib.ListN.{length, drop, getD}
 use lib.Dec.{leb, ltb, eqb}
 use Rattle.model.specs.Number.{anyOf, Case, _when_, firstCase, firstOf, indexOf}
-use Rattle.model.specs.Object.{Object, bitC, split, Standing, standings, Kind, known, kind, Role, constraint, recorded, aggregated, role}
+use Rattle.model.specs.Object.{Object, bitC, split, Standing, standings, known, kind, Role, constraint, recorded, aggregated, role}
 use Rattle.model.specs.Table.{Row, row}
 
 -- the place of a bar that is at no object

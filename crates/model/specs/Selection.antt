@@ -1,14 +1,13 @@
 -- Demand 2: the choice of a parent, and what a call that is not refused reports.
 use mathlib.Core.Path.{_≡_}
-use Prim.Native.Nat.{ℕ, _+_, _*_, _/_, _%_, _^_, _≤_, _<_}
+use Prim.Native.Nat.{ℕ, _+_, _/_, _%_, _^_, _≤_, _<_}
 use mathlib.Core.Bool.{Bool, true, false, cond, not}
 use mathlib.Core.List.{List, [], _∷_}
-use mathlib.Core.Option.{Option, none, some}
+use mathlib.Core.Option.{some}
 use lib.ListN.{length, getD, getElem?}
 use lib.Dec.{eqb}
 use lib.Count.{ones}
-use Rattle.model.specs.declared.Quantity.{Quantity}
-use Rattle.model.specs.declared.Quantity.the-variants.{Known, Unknown}
+use Rattle.model.specs.declared.Quantity.the-variants.{Known}
 use Rattle.model.specs.declared.Own.{Own}
 use Rattle.model.specs.declared.Candidate.{Candidate}
 use Rattle.model.specs.declared.Answer.{Answer}
@@ -55,7 +54,7 @@ pub record Selection (own : Own) (cs : List Candidate) (lent : List ℕ) (a : An
   -- a parent is chosen exactly when some candidate is barred by nothing
   pub exists : hasParent a ≡ anyOf (free own lent) cs
   pub parent : hasParent a ≡ true → Parented own cs lent a
-  pub nobody : hasParent a ≡ false → (a .rank .0 ≡ infinite) × (a .leaf ≡ 0) × (a .length ≡ 0)
+  pub nobody : hasParent a ≡ false → (a .rank .0 ≡ infinite) × (a .leaf ≡ 0) × (a .size ≡ 0)
   -- each candidate's verdict; positions past the count have 0
   pub verdict-at : (i : ℕ) (c : Candidate) → getElem? cs i ≡ some c
       → (getD (a .verdicts) i 0 ≡ numberOf (verdict own lent c)) × (getD (a .places) i noPlace ≡ placeOf (verdict own lent c))

@@ -4,7 +4,7 @@ use mathlib.Core.Bool.{Bool, true, false}
 use mathlib.Core.List.{List, [], _∷_}
 use lib.Dec.{eqb}
 use Rattle.model.specs.Number.{anyOf}
-use Rattle.model.specs.Object.{Kind, unknown, lql, node, scalar, Node, nsa, ne, hp, Scalar, throughput, latency, etx}
+use Rattle.model.specs.Object.{Kind, unknown, lql, node, scalar, nsa, ne, hp, throughput, latency, etx}
 
 pub record Row : Type 0 where
   -- the fixed bytes of a constraint or an aggregated metric, and whether TLVs follow them

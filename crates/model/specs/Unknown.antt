@@ -1,9 +1,9 @@
 -- Demand 3: what is unknown changes no answer, but that an unknown mandatory constraint bars; what is passed on keeps it.
 use mathlib.Core.Path.{_≡_}
-use Prim.Native.Nat.{ℕ, zero, suc, _/_, _%_, _<_}
+use Prim.Native.Nat.{ℕ}
 use mathlib.Core.Bool.{Bool, true, false, not, _||_}
 use mathlib.Core.List.{List, [], _∷_}
-use mathlib.Core.Option.{Option, none, some}
+use mathlib.Core.Option.{some}
 use lib.ListN.{length, drop, getD, getElem?}
 use lib.Dec.{eqb}
 use Rattle.model.specs.declared.Own.{Own}
@@ -12,7 +12,7 @@ use Rattle.model.specs.declared.Rank.{Rank}
 use Rattle.model.specs.declared.Verdict.the-variants.{Unbarred}
 use Rattle.model.specs.declared.Answer.{Answer}
 use Rattle.model.specs.Number.{anyOf}
-use Rattle.model.specs.Object.{Object, bitP, bitC, bitO, bitR, fieldA, fieldPrec, split, known, kind, Role, constraint, recorded, aggregated, role}
+use Rattle.model.specs.Object.{Object, split, known, kind, recorded, role, isRecorded}
 use Rattle.model.specs.Table.{row}
 use Rattle.model.specs.Reading.{wellFormed, reading}
 use Rattle.model.specs.Constraint.{unknownMandatory}
@@ -21,6 +21,7 @@ use Rattle.model.specs.Verdict.{containerOf, outside, verdict}
 use Rattle.model.specs.Choice.{Result, call}
 use Rattle.model.specs.Cut.{cutContainer}
 use Rattle.model.specs.Exact.{objectsIn}
+use Rattle.model.specs.ReadBack.{HeaderNext}
 use Rattle.model.specs.Untouched.{PassedOn, passedOn}
 
 -- two lists of one length whose elements at each index are related
@@ -45,21 +46,10 @@ pub record CutBeside (lent lent′ : List ℕ) (c c′ : Candidate) : Type 0 whe
 
 -- ---- places
 
--- header bits of an unknown object as received and as passed on: all kept, except that reserved bits are cleared, O if C=0,
--- R if C=1, and P is set if it is recorded
-pub data Header (o p : Object) : Role → Type 0 where
-  ofConstraint : bitP p ≡ bitP o → bitO p ≡ bitO o → bitR p ≡ 0 → Header o p constraint
-  ofRecorded : bitP p ≡ 1 → bitO p ≡ 0 → bitR p ≡ bitR o → Header o p recorded
-  ofAggregated : bitP p ≡ bitP o → bitO p ≡ 0 → bitR p ≡ bitR o → Header o p aggregated
-
--- an unknown object as received and as passed on
+-- an unknown object as received and as passed on: the same but for the header bits, where P is set if it is recorded
 pub record Kept (o p : Object) : Type 0 where
   pub body : p .body ≡ o .body
-  pub reserved : p .flags / 8 ≡ 0
-  pub sameC : bitC p ≡ bitC o
-  pub sameA : fieldA p ≡ fieldA o
-  pub samePrec : fieldPrec p ≡ fieldPrec o
-  pub header : Header o p (role o)
+  pub header : HeaderNext o p (isRecorded (role o))
 
 -- an object as received and as passed on at the same index: TLVs stand after the first two body bytes, every byte as received
 pub record Placed (o p : Object) : Type 0 where

@@ -1,8 +1,8 @@
 -- Demand 1: what a call leaves of the lent output.
 use mathlib.Core.Path.{_≡_}
 use Prim.Native.Nat.{ℕ, _+_}
-use mathlib.Core.Bool.{Bool, true, false}
-use mathlib.Core.List.{List, [], _∷_, _++_}
+use mathlib.Core.Bool.{true, false}
+use mathlib.Core.List.{List, _∷_}
 use lib.ListN.{length, take, drop}
 use Rattle.model.specs.declared.Own.{Own}
 use Rattle.model.specs.declared.Candidate.{Candidate}
@@ -17,16 +17,16 @@ pub record PassedOn (r : Result) : Type 0 where
 
 -- it is the output bytes up to the reported length
 abbrev pub passedOn : Result → List ℕ
-passedOn r = take (r .answer .length) (r .output)
+passedOn r = take (r .answer .size) (r .output)
 
 pub record Untouched (out : List ℕ) (r : Result) : Type 0 where
   -- a refused call, a call with no candidate unbarred and a leaf answer leave the output as it was
-  pub refused : (r .answer .refusal ≡ 0 → ⊥) → (r .output ≡ out) × (r .answer .length ≡ 0)
-  pub nobody : hasParent (r .answer) ≡ false → (r .output ≡ out) × (r .answer .length ≡ 0)
-  pub leaf : (r .answer .leaf ≡ 0 → ⊥) → (r .output ≡ out) × (r .answer .length ≡ 0)
+  pub refused : (r .answer .refusal ≡ 0 → ⊥) → (r .output ≡ out) × (r .answer .size ≡ 0)
+  pub nobody : hasParent (r .answer) ≡ false → (r .output ≡ out) × (r .answer .size ≡ 0)
+  pub leaf : (r .answer .leaf ≡ 0 → ⊥) → (r .output ≡ out) × (r .answer .size ≡ 0)
   -- otherwise only the first 2 + D' bytes change, and are a container with D' bytes of data
-  pub written : PassedOn r → (data′ : List ℕ) × (r .answer .length ≡ 2 + length data′) × (passedOn r ≡ 2 ∷ length data′ ∷ data′)
-  pub rest : drop (r .answer .length) (r .output) ≡ drop (r .answer .length) out
+  pub written : PassedOn r → (data′ : List ℕ) × (r .answer .size ≡ 2 + length data′) × (passedOn r ≡ 2 ∷ length data′ ∷ data′)
+  pub rest : drop (r .answer .size) (r .output) ≡ drop (r .answer .size) out
   pub size : length (r .output) ≡ length out
 
 -- of every call

@@ -9,7 +9,7 @@ use Rattle.model.specs.declared.Quantity.the-variants.{Known, Unknown}
 use Rattle.model.specs.declared.Own.{Own}
 use Rattle.model.specs.declared.Neighbour.{Neighbour}
 use Rattle.model.specs.Number.{isSet, isUnknown, number, bigEndian, Case, _when_, firstCase, first, firstOf}
-use Rattle.model.specs.Object.{Object, object, bitP, fieldA, join, Kind, unknown, lql, node, scalar, Node, nsa, ne, hp, Scalar, throughput, latency, etx, known, kind, Role, constraint, recorded, aggregated, role, isAggregated, isConstraint, isHp}
+use Rattle.model.specs.Object.{Object, object, fieldA, join, Kind, unknown, lql, node, scalar, Node, nsa, ne, hp, Scalar, throughput, latency, etx, known, kind, Role, constraint, recorded, aggregated, role, isAggregated, isConstraint, isHp}
 use Rattle.model.specs.Table.{row, allowed}
 use Rattle.model.specs.Constraint.{energyIn, linkValue}
 

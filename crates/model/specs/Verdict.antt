@@ -10,7 +10,6 @@ use Rattle.model.specs.declared.Candidate.{Candidate}
 use Rattle.model.specs.declared.Verdict.{Verdict}
 use Rattle.model.specs.declared.Verdict.the-variants.{Unbarred, Barred}
 use Rattle.model.specs.Number.{firstOf, indexOf, Case, _when_, firstCase}
-use Rattle.model.specs.Object.{Object}
 use Rattle.model.specs.Reading.{noPlace, Reading, refused, wellFormed, reading}
 use Rattle.model.specs.Constraint.{summary, constraintBar}
 use Rattle.model.specs.Rank.{resulting, rankTooHigh, aboveLowest}
@@ -21,11 +20,11 @@ outOfRange c = ltb (c .sp) 1 || ltb 9 (c .sp) || ltb (c .rf) 1 || ltb 4 (c .rf) 
 
 -- a candidate's container in the lent run
 abbrev pub containerOf : (lent : List ℕ) → Candidate → List ℕ
-containerOf lent c = take (c .length) (drop (c .start) lent)
+containerOf lent c = take (c .size) (drop (c .start) lent)
 
 -- bar 12: container not inside the lent bytes
 abbrev pub outside : (lent : List ℕ) → Candidate → Bool
-outside lent c = ltb (length lent) (c .start + c .length)
+outside lent c = ltb (length lent) (c .start + c .size)
 
 abbrev pub rankCases : Own → Neighbour → List Case
 rankCases own c = 20 when rankTooHigh own c ∷ 21 when aboveLowest own c ∷ []

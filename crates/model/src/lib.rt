@@ -56,7 +56,8 @@ pub struct Neighbour {
 pub struct Candidate {
     pub neighbour: Neighbour,
     pub start: usize,
-    pub length: usize,
+    // document 01's length of the container
+    pub size: usize,
 }
 
 // What a container tells the tests of its own constraints: the count of its HP metric.
@@ -87,5 +88,6 @@ pub struct Answer {
     pub bits: u16,
     pub count: u8,
     pub leaf: u8,
-    pub length: u16,
+    // document 01's length: the bytes of the container in the output
+    pub size: u16,
 }
