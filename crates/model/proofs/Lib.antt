@@ -19,3 +19,4 @@ pub mod RoundTrip
 pub mod ShapeLaws
 pub mod ReadBack
 pub mod Local
+pub mod TypeLaws

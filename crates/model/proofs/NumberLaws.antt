@@ -9,7 +9,7 @@ use mathlib.Core.Logic.{_↔_}
 use mathlib.Core.Option.{some, Option·none-ne-some}
 use lib.ListN.{take, getD, getElem?}
 use lib.Dec.{eqb}
-use borrow.Author.Tests.{eqb-false, not-true}
+use borrow.Author.Tests.{eqb-true, eqb-false, not-true}
 use Rattle.model.specs.Number.{anyOf, Case, firstCase, first, firstOf, indexAfter, indexOf}
 use Rattle.model.proofs.BoolLaws.{both}
 use Rattle.model.specs.Exact.{NoneOf, FirstToHold, FirstWith}
@@ -165,3 +165,17 @@ first-with f xs n group lower property has clear index = (
       rw (← e .1) record { element = a .element; stands = a .stands; has = has (a .element) .0 (a .gives); clear = λ i x h s. clear x .0 (a .clear i x h s) },
   λ w. at-firstOf f xs n index record { element = w .element; stands = w .stands; gives = has (w .element) .1 (w .has); clear = λ i x h s. clear x .1 (w .clear i x h s) },
 )
+
+-- ---- a test of every number below a bound, by computation
+
+abbrev pub allBelow : ℕ → (ℕ → Bool) → Bool
+allBelow zero f = true
+allBelow (suc n) f = f n && allBelow n f
+
+pub below-all : (n : ℕ) (f : ℕ → Bool) → allBelow n f ≡ true → (k : ℕ) → k < n → f k ≡ true
+below-all zero f h k l = absurd (not-suc-le-zero l)
+below-all (suc n) f h k l = let (p, q) = both (f n) (allBelow n f) h in go (eqb k n) refl (below-all n f q k) p
+  where
+    go : (b : Bool) → eqb k n ≡ b → (k < n → f k ≡ true) → f n ≡ true → f k ≡ true
+    go true e ih p = rw (eqb-true k n e) p
+    go false e ih p = ih (let d = eqb-false k n e in omega arith)

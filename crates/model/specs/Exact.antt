@@ -1,11 +1,12 @@
 -- Demand 1: each number is given exactly when its condition holds and none before it in document 01's order does.
 use mathlib.Core.Path.{_≡_}
 use Prim.Native.Nat.{ℕ, _<_}
-use mathlib.Core.Bool.{Bool, true, false}
+use mathlib.Core.Bool.{Bool, true, false, _&&_, _||_}
 use mathlib.Core.List.{List, [], _∷_, _++_, map}
 use mathlib.Core.Logic.{_↔_}
 use mathlib.Core.Option.{Option, none, some}
 use lib.ListN.{length, getElem?, replicate}
+use lib.Dec.{leb, eqb}
 use Rattle.model.specs.declared.Rank.{Rank}
 use Rattle.model.specs.declared.Answer.{Answer}
 use Rattle.model.specs.declared.Summary.{Summary}
@@ -15,7 +16,7 @@ use Rattle.model.specs.declared.Candidate.{Candidate}
 use Rattle.model.specs.declared.Verdict.{Verdict}
 use Rattle.model.specs.declared.Verdict.the-variants.{Unbarred, Barred}
 use Rattle.model.specs.Number.{anyOf}
-use Rattle.model.specs.Object.{Object, Standing, standings}
+use Rattle.model.specs.Object.{Object, bitC, bitR, Standing, standings, kindOf, known}
 use Rattle.model.specs.Reading.{noPlace, misframed, dataObjects, runsPast, malformed, repeated, misused}
 use Rattle.model.specs.Constraint.{summary, unknownMandatory, unmet}
 use Rattle.model.specs.Rank.{infinite, resulting, rankTooHigh, aboveLowest}
@@ -80,6 +81,15 @@ listOf (some os) = os
 -- the objects of a container that does not run past its end
 abbrev pub objectsIn : List ℕ → List Object
 objectsIn bs = listOf (dataObjects bs)
+
+-- known types are 1 to 7
+abbrev pub KnownTypes : Type 0
+KnownTypes = (type : ℕ) → known (kindOf type) ≡ leb 1 type && leb type 7
+
+-- bar 17 by numbers: a metric of type 1 (NSA) or 3 (HP) with R=1, or of type 6 (LQL) with R=0
+abbrev pub MisusedTypes : Type 0
+MisusedTypes = (es : List Object) (o : Object) → misused (record { earlier = es; object = o })
+    ≡ eqb (bitC o) 0 && ((eqb (o .type) 1 || eqb (o .type) 3) && eqb (bitR o) 1 || eqb (o .type) 6 && eqb (bitR o) 0)
 
 -- the conditions at an object: bars 15 to 17, and bars 18 and 19
 abbrev pub objectBars : List (Standing → Bool)

@@ -1,0 +1,69 @@
+-- Types by number: which are known, and which metrics bar 17 refuses.
+use mathlib.Core.Path.{_≡_, refl, sym, _∙_}
+use Prim.Native.Nat.{ℕ, _/_, _%_, _≤_, _<_}
+use native.Mathlib.Omega.{arith}
+use mathlib.Core.Bool.{Bool, true, false, Bool·beq, _&&_, _||_, and-false, false≢true}
+use lib.ListN.{List·getD-eq-default}
+use lib.Dec.{leb, ltb, eqb}
+use borrow.Author.Tests.{lt-leb, ne-eqb, ltb-true, ltb-false}
+use Rattle.model.specs.Object.{unknown, kinds, kindOf, known, roleBits, roleOf}
+use Rattle.model.specs.Table.{row}
+use Rattle.model.specs.Reading.{cannotBe}
+use Rattle.model.specs.Exact.{KnownTypes, MisusedTypes}
+use Rattle.model.proofs.NumberLaws.{allBelow, below-all}
+
+beq-true : (a b : Bool) → Bool·beq a b ≡ true → a ≡ b
+beq-true true true e = refl
+beq-true true false e = absurd (false≢true e)
+beq-true false true e = absurd (false≢true e)
+beq-true false false e = refl
+
+-- a type of 8 or more stands behind the list of kinds
+past-kinds : (t : ℕ) → 8 ≤ t → known (kindOf t) ≡ false
+unfolding kindOf
+past-kinds t h = rw (List·getD-eq-default kinds unknown h)
+
+below-8 : allBelow 8 (λ t. Bool·beq (known (kindOf t)) (leb 1 t && leb t 7)) ≡ true
+unfolding kindOf
+below-8 = refl
+
+pub known-types : KnownTypes
+known-types t = go (ltb t 8) refl
+  where
+    go : (b : Bool) → ltb t 8 ≡ b → known (kindOf t) ≡ leb 1 t && leb t 7
+    go true e = beq-true (known (kindOf t)) (leb 1 t && leb t 7) (below-all 8 (λ t. Bool·beq (known (kindOf t)) (leb 1 t && leb t 7)) below-8 t (ltb-true t 8 e))
+    go false e = let l = ltb-false t 8 e in past-kinds t l ∙ sym (rw (lt-leb t 7 (omega arith)) (and-false (leb 1 t)))
+
+-- a type that no rule names
+no-rule : (t : ℕ) (a b c : Bool) → 8 ≤ t → a && ((eqb t 1 || eqb t 3) && b || eqb t 6 && c) ≡ false
+no-rule t a b c h =
+    let n : (k : ℕ) → k < 8 → eqb t k ≡ false = λ k g. ne-eqb t k (λ e. omega arith) in
+    rw (n 1 (omega arith), n 3 (omega arith), n 6 (omega arith)) (and-false a)
+
+-- bar 17 by the table, and by the numbers
+abbrev tabled : (t c r : ℕ) → Bool
+tabled t c r = known (kindOf t) && cannotBe (roleBits c r) (row (kindOf t))
+
+abbrev numbered : (t c r : ℕ) → Bool
+numbered t c r = eqb c 0 && ((eqb t 1 || eqb t 3) && eqb r 1 || eqb t 6 && eqb r 0)
+
+-- they agree at every type below 8, by computation over types and bits
+agree : allBelow 8 (λ t. allBelow 2 (λ c. allBelow 2 (λ r. Bool·beq (tabled t c r) (numbered t c r)))) ≡ true
+unfolding kindOf
+agree = refl
+
+misused-at : (t c r : ℕ) → c < 2 → r < 2 → tabled t c r ≡ numbered t c r
+misused-at t c r h g = go (ltb t 8) refl
+  where
+    go : (b : Bool) → ltb t 8 ≡ b → tabled t c r ≡ numbered t c r
+    go true e =
+        let x = below-all 8 (λ t. allBelow 2 (λ c. allBelow 2 (λ r. Bool·beq (tabled t c r) (numbered t c r)))) agree t (ltb-true t 8 e) in
+        let y = below-all 2 (λ c. allBelow 2 (λ r. Bool·beq (tabled t c r) (numbered t c r))) x c h in
+        beq-true (tabled t c r) (numbered t c r) (below-all 2 (λ r. Bool·beq (tabled t c r) (numbered t c r)) y r g)
+    go false e =
+        let l = ltb-false t 8 e in
+        rw (past-kinds t l) (sym (no-rule t (eqb c 0) (eqb r 1) (eqb r 0) l))
+
+pub misused-types : MisusedTypes
+unfolding roleOf
+misused-types es o = misused-at (o .type) (o .flags / 2 % 2) (o .mode / 128 % 2) (omega arith) (omega arith)
