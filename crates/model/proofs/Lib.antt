@@ -20,3 +20,6 @@ pub mod ShapeLaws
 pub mod ReadBack
 pub mod Local
 pub mod TypeLaws
+pub mod Computed
+pub mod Examples
+pub mod Boundaries

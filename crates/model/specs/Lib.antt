@@ -16,3 +16,6 @@ pub mod ReadBack
 pub mod Local
 pub mod RoundTrip
 pub mod Unknown
+pub mod Samples
+pub mod Examples
+pub mod Boundaries

@@ -1,0 +1,38 @@
+-- Document 01 at its boundaries, computed.
+use mathlib.Core.Path.{refl}
+use Rattle.model.specs.Boundaries.{Boundaries}
+use Rattle.model.proofs.Computed.{model}
+
+pub boundaries : Boundaries
+unfolding model
+boundaries = record {
+  refusing = refl;
+  refused = refl;
+  bar11 = refl;
+  bar12 = refl;
+  bar13 = refl;
+  bar14 = refl;
+  bodies = refl;
+  bodyTlvs = refl;
+  objectUses = refl;
+  bar18 = refl;
+  bar19Nodes = refl;
+  bar19Links = refl;
+  optional = refl;
+  rankBars = refl;
+  byOperation = refl;
+  byObject = refl;
+  byLength = refl;
+  leafAnswers = refl;
+  aggregatedLinks = refl;
+  aggregatedNodes = refl;
+  recordedMetrics = refl;
+  constraintBodies = refl;
+  headerBits = refl;
+  objectOrder = refl;
+  choosing = refl;
+  passing = refl;
+  objectPlaces = refl;
+  texts = refl;
+  cutting = refl;
+}

@@ -1,0 +1,68 @@
+-- Every number and every rule of document 01 at its boundaries: at least one row on each side.
+pub mod Refusals
+pub mod Readings
+pub mod Shapes
+pub mod Constraints
+pub mod Ranks
+pub mod Leaves
+pub mod Aggregates
+pub mod Records
+pub mod Choices
+pub mod Places
+pub mod Listings
+pub mod Cuts
+use Rattle.model.specs.Listing.{listing}
+use Rattle.model.specs.Cut.{cutContainer}
+use Rattle.model.specs.Samples.{Holds, verdictOf, passedBy, outcomeOf}
+use Refusals.{refusals, refusedCalls, sizedRefusal, sizedOutcome}
+use Readings.{numbers, parts, frames, ends}
+use Shapes.{lengths, shapeVerdicts, tlvs, tlvVerdicts, uses}
+use Constraints.{unknowns, nodes, links, wishes}
+use Ranks.{ranks}
+use Leaves.{leaves, leafOf, operations, leafByA, long, leafCalls}
+use Aggregates.{linkSums, nodeSums}
+use Records.{records, constraints, headers, orders}
+use Choices.{choices, containers}
+use Places.{places, placeOf}
+use Listings.{listings}
+use Cuts.{cuts}
+
+pub record Boundaries : Type 0 where
+  -- refusals 1 to 4
+  pub refusing : Holds sizedRefusal refusals
+  pub refused : Holds sizedOutcome refusedCalls
+  -- bars 11, 12, 13 and 14
+  pub bar11 : Holds verdictOf numbers
+  pub bar12 : Holds verdictOf parts
+  pub bar13 : Holds verdictOf frames
+  pub bar14 : Holds verdictOf ends
+  -- bars 15, 16 and 17
+  pub bodies : Holds shapeVerdicts lengths
+  pub bodyTlvs : Holds tlvVerdicts tlvs
+  pub objectUses : Holds verdictOf uses
+  -- bars 18 and 19
+  pub bar18 : Holds verdictOf unknowns
+  pub bar19Nodes : Holds verdictOf nodes
+  pub bar19Links : Holds verdictOf links
+  pub optional : Holds verdictOf wishes
+  -- bars 20 and 21
+  pub rankBars : Holds verdictOf ranks
+  -- leaf answers 31 to 35
+  pub byOperation : Holds leafByA operations
+  pub byObject : Holds leafOf leaves
+  pub byLength : Holds leafOf long
+  pub leafAnswers : Holds outcomeOf leafCalls
+  -- updating for this hop
+  pub aggregatedLinks : Holds passedBy linkSums
+  pub aggregatedNodes : Holds passedBy nodeSums
+  pub recordedMetrics : Holds passedBy records
+  pub constraintBodies : Holds passedBy constraints
+  pub headerBits : Holds passedBy headers
+  pub objectOrder : Holds passedBy orders
+  -- the choice
+  pub choosing : Holds outcomeOf choices
+  pub passing : Holds outcomeOf containers
+  -- the places of bars, the listing and the cut
+  pub objectPlaces : Holds placeOf places
+  pub texts : Holds listing listings
+  pub cutting : Holds cutContainer cuts
