@@ -17,7 +17,7 @@ use Rattle.model.specs.Verdict.{verdict, numberOf, isUnbarred}
 use Rattle.model.specs.Choice.{badOwn, tooMany, currentPast, shortOutput, refusal, unlessLeaf, outgoing, noParent, parentOf, leafOf, answered, verdicts, choiceOf, call}
 use Rattle.model.proofs.BoolLaws.{neither}
 use Rattle.model.proofs.ListLaws.{getD-at, at-map}
-use Rattle.model.proofs.Exact.{refusal-is, refusals}
+use Rattle.model.proofs.Refusals.{refusal-is, refusals}
 use Rattle.model.proofs.VerdictLaws.{ten}
 
 pub call-is : (own : Own) (cs : List Candidate) (lent out : List ℕ) → call own cs lent out .answer .refusal ≡ 0

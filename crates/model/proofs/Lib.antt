@@ -3,7 +3,10 @@ pub mod NumberLaws
 pub mod ListLaws
 pub mod ObjectLaws
 pub mod ChoiceLaws
-pub mod Exact
+pub mod Refusals
+pub mod StageLaws
+pub mod Bars
+pub mod LeafLaws
 pub mod VerdictLaws
 pub mod CallLaws
 pub mod Selection
@@ -12,6 +15,7 @@ pub mod Untouched
 pub mod CutLaws
 pub mod ReadingLaws
 pub mod UpdateLaws
+pub mod PlaceLaws
 pub mod CutVerdictLaws
 pub mod Unknown
 pub mod SecondCall

@@ -4,14 +4,14 @@ use Prim.Native.Nat.{ℕ, zero, suc, _<_}
 use native.Mathlib.Nat.{not-suc-le-zero}
 use native.Mathlib.Omega.{arith}
 use mathlib.Core.Bool.{Bool, true, false, cond, not, _&&_, _||_, false≢true, true≢false}
-use mathlib.Core.List.{List, [], _∷_, map}
+use mathlib.Core.List.{List, [], _∷_, _++_, map}
 use mathlib.Core.Logic.{_↔_}
 use mathlib.Core.Option.{some, Option·none-ne-some}
 use lib.ListN.{take, getD, getElem?}
 use lib.Dec.{eqb}
 use borrow.Author.Tests.{eqb-true, eqb-false, not-true}
 use Rattle.model.specs.Number.{anyOf, Case, firstCase, first, firstOf, indexAfter, indexOf}
-use Rattle.model.proofs.BoolLaws.{both}
+use Rattle.model.proofs.BoolLaws.{both, neither}
 use Rattle.model.specs.Exact.{NoneOf, FirstToHold, FirstWith}
 
 -- ---- the first case that holds
@@ -71,6 +71,16 @@ exact-none (c ∷ cs) h = let (p, q) = both (not (eqb (c .number) 0)) (nonzero c
     go : (t : Bool) → not (eqb (c .number) 0) ≡ true → ((firstCase cs ≡ 0) ↔ NoneOf (holding cs)) → (cond t (c .number) (firstCase cs) ≡ 0) ↔ (t || anyOf (λ x. x) (holding cs) ≡ false)
     go true p ih = (λ e. absurd (other (c .number) 0 p e), λ f. absurd (true≢false f))
     go false p ih = ih
+
+-- ---- none of two lists of conditions
+
+pub none-both : (xs ys : List Bool) → NoneOf xs → NoneOf ys → NoneOf (xs ++ ys)
+none-both [] ys p q = q
+none-both (x ∷ xs) ys p q = let (a, b) = neither x (anyOf (λ z. z) xs) p in rw a (none-both xs ys b q)
+
+pub none-parts : (xs ys : List Bool) → NoneOf (xs ++ ys) → NoneOf xs × NoneOf ys
+none-parts [] ys p = (refl, p)
+none-parts (x ∷ xs) ys p = let (a, b) = neither x (anyOf (λ z. z) (xs ++ ys)) p in let (u, v) = none-parts xs ys b in (rw a u, v)
 
 -- ---- numbers given or not
 

@@ -23,7 +23,7 @@ use Rattle.model.specs.Selection.{Parented}
 use Rattle.model.specs.Exact.{someHas, leafTests, LeavesExact}
 use Rattle.model.specs.Untouched.{passedOn}
 use Rattle.model.proofs.BoolLaws.{neither}
-use Rattle.model.proofs.Exact.{leaf-exact}
+use Rattle.model.proofs.LeafLaws.{leaf-exact}
 use Rattle.model.proofs.ListLaws.{at-below}
 use Rattle.model.proofs.CallLaws.{call-is, unrefused}
 use Rattle.model.proofs.Selection.{parented}

@@ -21,7 +21,8 @@ use Rattle.model.proofs.BoolLaws.{both}
 use Rattle.model.proofs.NumberLaws.{first-zero}
 use Rattle.model.proofs.RoundTrip.{length-bigEndian}
 use Rattle.model.proofs.CutLaws.{no-bar}
-use Rattle.model.proofs.UpdateLaws.{role-update, drop-onTwo}
+use Rattle.model.proofs.UpdateLaws.{role-update}
+use Rattle.model.proofs.PlaceLaws.{drop-onTwo}
 
 -- ---- lengths
 

@@ -24,10 +24,11 @@ use Rattle.model.specs.Unknown.{Each, nil, cons, CutBeside, KeepsPlaces,
 use Rattle.model.proofs.ListLaws.{map-at}
 use Rattle.model.proofs.BoolLaws.{neither}
 use Rattle.model.proofs.ReadingLaws.{container-objects}
-use Rattle.model.proofs.UpdateLaws.{nextHop-cut, leafAnswer-cut, update-places}
+use Rattle.model.proofs.UpdateLaws.{nextHop-cut, leafAnswer-cut}
+use Rattle.model.proofs.PlaceLaws.{update-places}
 use Rattle.model.proofs.CutVerdictLaws.{read-second, verdict-bars, verdict-same, resulting-same, unbarred-same}
 use Rattle.model.proofs.CallLaws.{call-is, no-leaf, named, barred-at}
-use Rattle.model.proofs.Exact.{refusal-is}
+use Rattle.model.proofs.Refusals.{refusal-is}
 use Rattle.model.proofs.ChoiceLaws.{choose-unbarred, placeless, without-places, choose-placeless, bits-placeless, numbers-placeless}
 
 each-at : {A : Type 0} (R : A → A → Type 0) (xs ys : List A) → Each R xs ys → (i : ℕ) (x : A) → getElem? xs i ≡ some x → (y : A) × (getElem? ys i ≡ some y) × R x y

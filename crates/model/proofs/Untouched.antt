@@ -16,7 +16,7 @@ use Rattle.model.specs.Choice.{Outgoing, outgoing, answered, refusedBy, 
 use Rattle.model.specs.Selection.{hasParent}
 use Rattle.model.specs.Untouched.{Untouched, UntouchedHolds}
 use Rattle.model.proofs.ChoiceLaws.{isParent}
-use Rattle.model.proofs.Exact.{refusal-is}
+use Rattle.model.proofs.Refusals.{refusal-is}
 use Rattle.model.proofs.Selection.{has-parent}
 use Rattle.model.proofs.CallLaws.{unrefused}
 use Rattle.model.proofs.OutgoingLaws.{Sending, nobody, asLeaf, sends, sending, fits}

@@ -1,23 +1,21 @@
--- The update for this hop against the cut, and the places of what is unknown.
-use mathlib.Core.Path.{_≡_, refl, sym, ap, subst, _∙_}
+-- The update for this hop against the cut.
+use mathlib.Core.Path.{_≡_, refl, ap, _∙_}
 use Prim.Native.Nat.{ℕ, zero, suc, _*_, _/_, _%_, _≤_}
-use mathlib.Core.Bool.{_&&_, and-true, Bool, true, false, cond}
+use mathlib.Core.Bool.{Bool, true, false, cond}
 use mathlib.Core.List.{List, [], _∷_}
 use native.Mathlib.Omega.{arith}
-use lib.ListN.{length, take, drop, length-append, length-take}
+use lib.ListN.{length, take, length-append, length-take}
 use lib.Dec.{ltb}
 use borrow.Author.Tests.{ltb-false, le-ltb}
 use Rattle.model.specs.declared.Own.{Own}
 use Rattle.model.specs.declared.Neighbour.{Neighbour}
 use Rattle.model.specs.Number.{_when_, firstCase, firstOf}
-use Rattle.model.specs.Object.{Object, isRecorded, object, fieldA, join, container, Kind, unknown, lql, node, scalar, Node, nsa, ne, hp, Scalar, throughput, latency, etx, known, kind, Role, constraint, recorded, aggregated, roleBits, roleOf, role}
+use Rattle.model.specs.Object.{Object, fieldA, join, container, Kind, unknown, lql, node, scalar, Node, nsa, ne, hp, Scalar, throughput, latency, etx, known, kind, Role, constraint, recorded, aggregated, roleBits, roleOf, role}
 use Rattle.model.specs.Table.{row}
-use Rattle.model.specs.Update.{localValue, valueOr0, onTwo, clear0, clear1, combine1, aggregatedBody, constraintBody, recordedBody, addsNothing, nextBody, nextFlags, nextMode, updateObject, update, noEnergy, objectLeaf, tooLong, leafAnswer}
+use Rattle.model.specs.Update.{localValue, valueOr0, onTwo, clear0, clear1, combine1, aggregatedBody, constraintBody, addsNothing, nextBody, nextFlags, nextMode, updateObject, update, noEnergy, objectLeaf, tooLong, leafAnswer}
 use Rattle.model.specs.Cut.{cutBody, cutObject, keepIf, cut, cutContainer}
-use Rattle.model.specs.ReadBack.{HeaderNext, HeadersNext}
-use Rattle.model.specs.Unknown.{Each, nil, cons, Placed}
 use Rattle.model.proofs.NumberLaws.{first-zero}
-use Rattle.model.proofs.CutLaws.{cutBody-byte0, cutBody-byte1, unknown-kind}
+use Rattle.model.proofs.CutLaws.{cutBody-byte0, cutBody-byte1}
 use Rattle.model.proofs.ReadingLaws.{cutContainer-container}
 
 -- ---- the role stays
@@ -45,7 +43,7 @@ node-tlvs nsa = refl
 node-tlvs ne = refl
 node-tlvs hp = refl
 
-scalar-tlvs : (s : Scalar) → row (scalar s) .tlvs ≡ false
+pub scalar-tlvs : (s : Scalar) → row (scalar s) .tlvs ≡ false
 scalar-tlvs throughput = refl
 scalar-tlvs latency = refl
 scalar-tlvs etx = refl
@@ -139,72 +137,3 @@ leafAnswer-cut own c os e =
     let small = fits (length (join (update own c os))) _ refl t in
     let less = cut-length (update own c os) in
     rw (leaves-cut own c os h, ← update-cut own c os, le-ltb 255 (length (join (cut (update own c os)))) (omega arith))
-
--- ---- places
-
--- P beside the cleared reserved bits
-bitP-mod : (f : ℕ) → f % 8 / 4 % 2 ≡ f / 4 % 2
-bitP-mod f = omega arith
-
--- header bits, by C and R
-header-at : (t f m c r : ℕ) (p : Bool) (b b′ : List ℕ) → f / 2 % 2 ≡ c → m / 128 % 2 ≡ r
-    → HeaderNext (object t f m b) (object t (nextFlags (roleBits c r) p f) (nextMode (roleBits c r) m) b′) (isRecorded (roleBits c r) && p)
-header-at t f m (suc c) r p b b′ e d =
-    let one : f / 2 % 2 ≡ 1 = omega arith in
-    record { type = refl; reserved = omega arith; nextP = bitP-mod f; sameC = omega arith; nextO = rw one (omega arith); nextR = rw one (omega arith); sameA = omega arith; samePrec = omega arith }
-header-at t f m zero (suc r) true b b′ e d =
-    record { type = refl; reserved = refl; nextP = refl; sameC = sym e; nextO = rw e; nextR = rw e; sameA = refl; samePrec = refl }
-header-at t f m zero (suc r) false b b′ e d =
-    record { type = refl; reserved = omega arith; nextP = omega arith; sameC = omega arith; nextO = rw e (omega arith); nextR = rw e; sameA = refl; samePrec = refl }
-header-at t f m zero zero p b b′ e d =
-    record { type = refl; reserved = omega arith; nextP = omega arith; sameC = omega arith; nextO = rw e (omega arith); nextR = rw e; sameA = refl; samePrec = refl }
-
-pub headers : HeadersNext
-unfolding updateObject roleOf
-headers own c o = header-at (o .type) (o .flags) (o .mode) (o .flags / 2 % 2) (o .mode / 128 % 2) (addsNothing c (kind o)) (o .body) _ refl refl
-
-pub drop-onTwo : (f g : ℕ → ℕ) (b : List ℕ) → drop 2 (onTwo f g b) ≡ drop 2 b
-drop-onTwo f g [] = refl
-drop-onTwo f g (x ∷ []) = refl
-drop-onTwo f g (x ∷ y ∷ t) = refl
-
-nextBody-unknown : (own : Own) (c : Neighbour) (r : Role) (a : ℕ) (b : List ℕ) → nextBody own c unknown r a b ≡ b
-unfolding constraintBody recordedBody aggregatedBody
-nextBody-unknown own c constraint a b = refl
-nextBody-unknown own c recorded a b = refl
-nextBody-unknown own c aggregated a b = refl
-
-constraintBody-tlvs : (k : Kind) (b : List ℕ) → row k .tlvs ≡ true → drop 2 (constraintBody k b) ≡ drop 2 b
-unfolding constraintBody
-constraintBody-tlvs unknown b e = cc
-constraintBody-tlvs lql b e = cc
-constraintBody-tlvs (node n) b e = drop-onTwo (clear0 n) (clear1 n) b
-constraintBody-tlvs (scalar s) b e = refl
-
-aggregatedBody-tlvs : (k : Kind) (a v : ℕ) (b : List ℕ) → row k .tlvs ≡ true → drop 2 (aggregatedBody k a v b) ≡ drop 2 b
-unfolding aggregatedBody
-aggregatedBody-tlvs unknown a v b e = cc
-aggregatedBody-tlvs lql a v b e = cc
-aggregatedBody-tlvs (node n) a v b e = drop-onTwo (clear0 n) (combine1 n a v) b
-aggregatedBody-tlvs (scalar s) a v b e = let z = scalar-tlvs s in cc
-
-nextBody-tlvs : (own : Own) (c : Neighbour) (k : Kind) (r : Role) (a : ℕ) (b : List ℕ) → row k .tlvs ≡ true → (r ≡ recorded → ⊥)
-    → drop 2 (nextBody own c k r a b) ≡ drop 2 b
-nextBody-tlvs own c k constraint a b e h = constraintBody-tlvs k b e
-nextBody-tlvs own c k recorded a b e h = absurd (h refl)
-nextBody-tlvs own c k aggregated a b e h = aggregatedBody-tlvs k a (valueOr0 (localValue own c k)) b e
-
-placed : (own : Own) (c : Neighbour) (o : Object) → Placed o (updateObject own c o)
-unfolding updateObject roleOf
-placed own c o = record {
-  type = refl;
-  unknown = λ e. record { body = rw (unknown-kind (kind o) e) (nextBody-unknown own c (role o) (fieldA o) (o .body)); header = always (unknown-kind (kind o) e) (headers own c o) };
-  tlvs = nextBody-tlvs own c (kind o) (role o) (fieldA o) (o .body);
-}
-  where
-    always : kind o ≡ unknown → HeaderNext o (updateObject own c o) (isRecorded (role o) && addsNothing c (kind o)) → HeaderNext o (updateObject own c o) (isRecorded (role o))
-    always k h = subst (HeaderNext o (updateObject own c o)) (ap (λ s. isRecorded (role o) && addsNothing c s) k ∙ and-true (isRecorded (role o))) h
-
-pub update-places : (own : Own) (c : Neighbour) (os : List Object) → Each Placed os (update own c os)
-update-places own c [] = nil
-update-places own c (o ∷ os) = cons (placed own c o) (update-places own c os)

@@ -19,7 +19,8 @@ use Rattle.model.specs.Rank.{infinite, resulting, rankTooHigh, aboveLowe
 use Rattle.model.specs.Verdict.{outOfRange, containerOf, outside, judgeReading, verdict, numberOf, isUnbarred}
 use Rattle.model.specs.Exact.{barsTo19}
 use Rattle.model.proofs.BoolLaws.{neither}
-use Rattle.model.proofs.Exact.{bars, none-parts, never-10}
+use Rattle.model.proofs.Bars.{bars, never-10}
+use Rattle.model.proofs.NumberLaws.{none-parts}
 
 -- what is known of a candidate that nothing bars
 pub record Admitted (own : Own) (lent : List ℕ) (c : Candidate) : Type 0 where

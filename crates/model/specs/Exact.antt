@@ -54,6 +54,10 @@ pub record RefusalExact (own : Own) (count room given : ℕ) : Type 0 where
   pub refusal-4 : (given ≡ 4) ↔ FirstToHold (badOwn own ∷ tooMany count ∷ currentPast own count ∷ []) (shortOutput room)
   pub unrefused : (given ≡ 0) ↔ NoneOf (badOwn own ∷ tooMany count ∷ currentPast own count ∷ shortOutput room ∷ [])
 
+-- of every call
+abbrev pub RefusalsExact : Type 0
+RefusalsExact = (own : Own) (cs : List Candidate) (lent out : List ℕ) → RefusalExact own (length cs) (length out) (call own cs lent out .answer .refusal)
+
 -- a refused call: no parent, no rank, all verdicts 0, no bits, count 0, length 0
 pub record RefusedAnswer (a : Answer) : Type 0 where
   pub parent : a .parent ≡ noParent
@@ -68,10 +72,6 @@ pub record RefusedAnswer (a : Answer) : Type 0 where
 abbrev pub RefusedAnswers : Type 0
 RefusedAnswers = (own : Own) (cs : List Candidate) (lent out : List ℕ) → (call own cs lent out .answer .refusal ≡ 0 → ⊥) → RefusedAnswer (call own cs lent out .answer)
 
--- of every call
-abbrev pub RefusalsExact : Type 0
-RefusalsExact = (own : Own) (cs : List Candidate) (lent out : List ℕ) → RefusalExact own (length cs) (length out) (call own cs lent out .answer .refusal)
-
 -- ---- bars 11 to 21
 
 abbrev pub listOf : Option (List Object) → List Object
@@ -81,15 +81,6 @@ listOf (some os) = os
 -- the objects of a container that does not run past its end
 abbrev pub objectsIn : List ℕ → List Object
 objectsIn bs = listOf (dataObjects bs)
-
--- known types are 1 to 7
-abbrev pub KnownTypes : Type 0
-KnownTypes = (type : ℕ) → known (kindOf type) ≡ leb 1 type && leb type 7
-
--- bar 17 by numbers: a metric of type 1 (NSA) or 3 (HP) with R=1, or of type 6 (LQL) with R=0
-abbrev pub MisusedTypes : Type 0
-MisusedTypes = (es : List Object) (o : Object) → misused (record { earlier = es; object = o })
-    ≡ eqb (bitC o) 0 && ((eqb (o .type) 1 || eqb (o .type) 3) && eqb (bitR o) 1 || eqb (o .type) 6 && eqb (bitR o) 0)
 
 -- the conditions at an object: bars 15 to 17, and bars 18 and 19
 abbrev pub objectBars : List (Standing → Bool)
@@ -140,11 +131,22 @@ pub record BarExact (own : Own) (lent : List ℕ) (c : Candidate) (given : Verdi
 abbrev pub BarsExact : Type 0
 BarsExact = (own : Own) (lent : List ℕ) (c : Candidate) → BarExact own lent c (verdict own lent c)
 
+-- known types are 1 to 7
+abbrev pub KnownTypes : Type 0
+KnownTypes = (type : ℕ) → known (kindOf type) ≡ leb 1 type && leb type 7
+
+-- bar 17 by numbers: a metric of type 1 (NSA) or 3 (HP) with R=1, or of type 6 (LQL) with R=0
+abbrev pub MisusedTypes : Type 0
+MisusedTypes = (es : List Object) (o : Object) → misused (record { earlier = es; object = o })
+    ≡ eqb (bitC o) 0 && ((eqb (o .type) 1 || eqb (o .type) 3) && eqb (bitR o) 1 || eqb (o .type) 6 && eqb (bitR o) 0)
+
 -- ---- leaf answers 31 to 35
 
+-- the conditions at an object: 31 to 34
 abbrev pub leafTests : Own → Neighbour → List (Object → Bool)
 leafTests own c = unknownAggregated ∷ notAllowed ∷ noValue own c ∷ fullCount ∷ []
 
+-- 31 to 34 at some object
 abbrev pub LeafAt : Own → Neighbour → List Object → (lower : List (Object → Bool)) → (Object → Bool) → Type 0
 LeafAt own c os lower leaf = (place : ℕ) × FirstWith os (leafTests own c) lower leaf place
 
