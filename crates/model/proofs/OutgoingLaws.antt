@@ -19,7 +19,7 @@ use Rattle.model.specs.Reading.{wellFormed, reading}
 use Rattle.model.specs.Verdict.{containerOf}
 use Rattle.model.specs.Update.{update, tooLong, leafAnswer}
 use Rattle.model.specs.Choice.{Outgoing, noContainer, nextHop, unlessLeaf, outgoing, noParent, leafOf, choiceOf, call}
-use Rattle.model.specs.Selection.{Parented}
+use Rattle.model.specs.Selection.{PreferredParent}
 use Rattle.model.specs.Exact.{someHas, leafTests, LeavesExact}
 use Rattle.model.specs.Untouched.{passedOn}
 use Rattle.model.proofs.BoolLaws.{neither}
@@ -76,7 +76,7 @@ unfolding outgoing
 container-of own cs lent p r c os s e l = rw (s, e, l)
 
 module _ (own : Own) (cs : List Candidate) (lent out : List ℕ) (taken : call own cs lent out .answer .refusal ≡ 0)
-    (x : Parented own cs lent (call own cs lent out .answer)) where
+    (x : PreferredParent own cs lent (call own cs lent out .answer)) where
   -- the parent that the answer names is the one chosen
   record Chosen : Type 0 where
     position : ℕ

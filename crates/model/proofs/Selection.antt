@@ -21,7 +21,7 @@ use Rattle.model.specs.Reading.{noPlace}
 use Rattle.model.specs.Rank.{infinite, resulting}
 use Rattle.model.specs.Verdict.{verdict, numberOf, placeOf, isUnbarred}
 use Rattle.model.specs.Choice.{currentOf, notCurrent, criteria, precedes, unbarredBit, Outgoing, outgoing, noParent, parentOf, rankOf, leafOf, sizeOf, sixteen, answered, verdicts, choiceOf, call, refusal}
-use Rattle.model.specs.Selection.{hasParent, free, occurrences, Parented, Selection, SelectionHolds}
+use Rattle.model.specs.Selection.{hasParent, barredByNothing, occurrences, PreferredParent, Selection, SelectionHolds}
 use Rattle.model.proofs.ListLaws.{at-below, at-map, map-at, getD-at, getD-past, any-map, length-filled}
 use Rattle.model.proofs.ChoiceLaws.{not-preceding, isParent, Preferred, choose-preferred, choose-unbarred, choose-parent, bit-at, bits-below, unbarredCount, ones-bits}
 use Rattle.model.proofs.CallLaws.{call-is, unrefused}
@@ -107,13 +107,13 @@ module _ (own : Own) (cs : List Candidate) (lent out : List ℕ) (taken : call o
   has-parent (Parent p r) e = let h = below p r e in let f : eqb p noParent ≡ false = ne-eqb p noParent (λ z. omega arith) in rw f
 
   -- what is unbarred at a position, as the choice sees it
-  unbarred-at : (i : ℕ) (d : Candidate) → getElem? cs i ≡ some d → free own lent d ≡ true → getElem? vs i ≡ some (Unbarred (record { 0 = resulting own (d .neighbour) }))
+  unbarred-at : (i : ℕ) (d : Candidate) → getElem? cs i ≡ some d → barredByNothing own lent d ≡ true → getElem? vs i ≡ some (Unbarred (record { 0 = resulting own (d .neighbour) }))
   unbarred-at i d s f = at-map (verdict own lent) cs i d s ∙ ap some (admitted own lent d f .rank)
 
-  pub parented : (p : ℕ) (r : Rank) → choiceOf own cs lent ≡ Parent p r → (o : Outgoing) → Parented own cs lent (answered vs (Parent p r) o out .answer)
+  pub parented : (p : ℕ) (r : Rank) → choiceOf own cs lent ≡ Parent p r → (o : Outgoing) → PreferredParent own cs lent (answered vs (Parent p r) o out .answer)
   parented p r e o =
       let (c, s, v) = candidate-at p r (choose-unbarred (currentOf own) vs p r e) in
-      let f : free own lent c ≡ true = rw v in
+      let f : barredByNothing own lent c ≡ true = rw v in
       let a = admitted own lent c f in
       let k : Unbarred r ≡ Unbarred (record { 0 = resulting own (c .neighbour) }) = sym v ∙ a .rank in
       let g : r .0 ≡ resulting own (c .neighbour) = unbarred-rank r (record { 0 = resulting own (c .neighbour) }) k in
@@ -144,7 +144,7 @@ module _ (own : Own) (cs : List Candidate) (lent out : List ℕ) (taken : call o
       known-same : (q : Quantity) (p i : ℕ) → q ≡ Known p → q ≡ Known i → p ≡ i
       known-same q p i a b = cc
 
-      beside : (i : ℕ) (d : Candidate) → getElem? cs i ≡ some d → free own lent d ≡ true
+      beside : (i : ℕ) (d : Candidate) → getElem? cs i ≡ some d → barredByNothing own lent d ≡ true
           → (r .0 ≤ resulting own (d .neighbour))
           × (resulting own (d .neighbour) ≡ r .0 → (notCurrent (currentOf own) p ≤ notCurrent (currentOf own) i) × (notCurrent (currentOf own) i ≡ notCurrent (currentOf own) p → p ≤ i))
       beside i d s f =
@@ -167,7 +167,7 @@ module _ (own : Own) (cs : List Candidate) (lent out : List ℕ) (taken : call o
     count-verdicts = ones-bits vs ∙ tens own lent cs ∙ sym (occurrences-append 10 (map numberOf vs) (replicate (16 - length (map numberOf vs)) 0) ∙ rw occurrences-zeros (omega arith));
   }
     where
-      go : (ch : Choice) → choiceOf own cs lent ≡ ch → hasParent (answered vs ch (outgoing own cs lent ch) out .answer) ≡ true → Parented own cs lent (answered vs ch (outgoing own cs lent ch) out .answer)
+      go : (ch : Choice) → choiceOf own cs lent ≡ ch → hasParent (answered vs ch (outgoing own cs lent ch) out .answer) ≡ true → PreferredParent own cs lent (answered vs ch (outgoing own cs lent ch) out .answer)
       go Nobody e h = absurd (false≢true h)
       go (Parent p r) e h = parented p r e (outgoing own cs lent (Parent p r))
 

@@ -23,7 +23,7 @@ use Rattle.model.specs.Rank.{infinite, resulting, rankTooHigh, aboveLowe
 use Rattle.model.specs.Verdict.{outOfRange, containerOf, outside, verdict}
 use Rattle.model.specs.Update.{unknownAggregated, notAllowed, noValue, fullCount, tooLong}
 use Rattle.model.specs.Choice.{badOwn, tooMany, currentPast, shortOutput, noParent, call}
-use Rattle.model.specs.Selection.{Parented}
+use Rattle.model.specs.Selection.{PreferredParent}
 
 -- none of some conditions holds
 abbrev pub NoneOf : List Bool → Type 0
@@ -162,4 +162,4 @@ pub record LeafExact (own : Own) (c : Neighbour) (os : List Object) (given : ℕ
 -- of every parent that a call names
 abbrev pub LeavesExact : Type 0
 LeavesExact = (own : Own) (cs : List Candidate) (lent out : List ℕ) → call own cs lent out .answer .refusal ≡ 0
-    → (p : Parented own cs lent (call own cs lent out .answer)) → LeafExact own (p .candidate .neighbour) (p .objects) (call own cs lent out .answer .leaf)
+    → (p : PreferredParent own cs lent (call own cs lent out .answer)) → LeafExact own (p .candidate .neighbour) (p .objects) (call own cs lent out .answer .leaf)

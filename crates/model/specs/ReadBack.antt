@@ -14,12 +14,12 @@ use Rattle.model.specs.Reading.{wellFormed, reading}
 use Rattle.model.specs.Constraint.{linkValue}
 use Rattle.model.specs.Update.{mostOf, addsNothing, updateObject, update}
 use Rattle.model.specs.Choice.{call}
-use Rattle.model.specs.Selection.{Parented}
+use Rattle.model.specs.Selection.{PreferredParent}
 use Rattle.model.specs.Untouched.{PassedOn, passedOn}
 
 -- the container passed on is well-formed, and holds the parent's objects, each updated
 abbrev pub ReadsBack : Type 0
-ReadsBack = (own : Own) (cs : List Candidate) (lent out : List ℕ) → PassedOn (call own cs lent out) → (p : Parented own cs lent (call own cs lent out .answer))
+ReadsBack = (own : Own) (cs : List Candidate) (lent out : List ℕ) → PassedOn (call own cs lent out) → (p : PreferredParent own cs lent (call own cs lent out .answer))
     → reading (passedOn (call own cs lent out)) ≡ wellFormed (update own (p .candidate .neighbour) (p .objects))
 
 -- header bits as received and as sent on: reserved bits are cleared, O when C=0, R when C=1; P is kept, or set; nothing else changes

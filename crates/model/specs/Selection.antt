@@ -23,8 +23,8 @@ abbrev pub hasParent : Answer → Bool
 hasParent a = not (eqb (a .parent) noParent)
 
 -- a candidate that no bar holds of
-abbrev pub free : Own → (lent : List ℕ) → Candidate → Bool
-free own lent c = isUnbarred (verdict own lent c)
+abbrev pub barredByNothing : Own → (lent : List ℕ) → Candidate → Bool
+barredByNothing own lent c = isUnbarred (verdict own lent c)
 
 -- how many numbers of a list are n
 unfoldable pub occurrences : (n : ℕ) → List ℕ → ℕ
@@ -32,28 +32,28 @@ occurrences n [] = 0
 occurrences n (m ∷ ms) = cond (eqb m n) 1 0 + occurrences n ms
 
 -- what holds of the parent that an answer names
-pub record Parented (own : Own) (cs : List Candidate) (lent : List ℕ) (a : Answer) : Type 0 where
+pub record PreferredParent (own : Own) (cs : List Candidate) (lent : List ℕ) (a : Answer) : Type 0 where
   pub candidate : Candidate
   pub stands : getElem? cs (a .parent) ≡ some candidate
-  pub unbarred : free own lent candidate ≡ true
+  pub unbarred : barredByNothing own lent candidate ≡ true
   pub objects : List Object
   pub read : reading (containerOf lent candidate) ≡ wellFormed objects
   pub rank : a .rank .0 ≡ resulting own (candidate .neighbour)
   pub finite : a .rank .0 < infinite
   pub rises : candidate .neighbour .rank .0 < a .rank .0
   -- no unbarred candidate has a lower resulting rank
-  pub least : (i : ℕ) (d : Candidate) → getElem? cs i ≡ some d → free own lent d ≡ true → a .rank .0 ≤ resulting own (d .neighbour)
+  pub least : (i : ℕ) (d : Candidate) → getElem? cs i ≡ some d → barredByNothing own lent d ≡ true → a .rank .0 ≤ resulting own (d .neighbour)
   -- a tie goes to the current parent if it is among them, then to the lower position
-  pub tie-current : (i : ℕ) (d : Candidate) → getElem? cs i ≡ some d → free own lent d ≡ true → resulting own (d .neighbour) ≡ a .rank .0
+  pub tie-current : (i : ℕ) (d : Candidate) → getElem? cs i ≡ some d → barredByNothing own lent d ≡ true → resulting own (d .neighbour) ≡ a .rank .0
       → currentOf own ≡ Known i → a .parent ≡ i
-  pub tie-position : (i : ℕ) (d : Candidate) → getElem? cs i ≡ some d → free own lent d ≡ true → resulting own (d .neighbour) ≡ a .rank .0
+  pub tie-position : (i : ℕ) (d : Candidate) → getElem? cs i ≡ some d → barredByNothing own lent d ≡ true → resulting own (d .neighbour) ≡ a .rank .0
       → (currentOf own ≡ Known (a .parent) → ⊥) → a .parent ≤ i
 
 -- what a call reports that is not refused
 pub record Selection (own : Own) (cs : List Candidate) (lent : List ℕ) (a : Answer) : Type 0 where
   -- a parent is chosen exactly when some candidate is barred by nothing
-  pub exists : hasParent a ≡ anyOf (free own lent) cs
-  pub parent : hasParent a ≡ true → Parented own cs lent a
+  pub exists : hasParent a ≡ anyOf (barredByNothing own lent) cs
+  pub parent : hasParent a ≡ true → PreferredParent own cs lent a
   pub nobody : hasParent a ≡ false → (a .rank .0 ≡ infinite) × (a .leaf ≡ 0) × (a .size ≡ 0)
   -- each candidate's verdict; positions past the count have 0
   pub verdict-at : (i : ℕ) (c : Candidate) → getElem? cs i ≡ some c
@@ -61,7 +61,7 @@ pub record Selection (own : Own) (cs : List Candidate) (lent : List ℕ) (a : An
   pub verdict-past : (i : ℕ) → length cs ≤ i → (getD (a .verdicts) i 0 ≡ 0) × (getD (a .places) i noPlace ≡ noPlace)
   pub sixteen : (length (a .verdicts) ≡ 16) × (length (a .places) ≡ 16)
   -- one bit per candidate tells who is unbarred, and no other bit is set
-  pub bit-at : (i : ℕ) (c : Candidate) → getElem? cs i ≡ some c → isSet (a .bits / 2 ^ i % 2) ≡ free own lent c
+  pub bit-at : (i : ℕ) (c : Candidate) → getElem? cs i ≡ some c → isSet (a .bits / 2 ^ i % 2) ≡ barredByNothing own lent c
   pub bit-past : a .bits < 2 ^ length cs
   -- the number reported is the count of those bits, and of the verdicts 10
   pub count-bits : a .count ≡ ones (a .bits)
