@@ -35,4 +35,7 @@ boundaries = record {
   objectPlaces = refl;
   texts = refl;
   cutting = refl;
+  bitVerdicts = refl;
+  bitRefusals = refl;
+  bitContainers = refl;
 }

@@ -11,6 +11,7 @@ pub mod Choices
 pub mod Places
 pub mod Listings
 pub mod Cuts
+pub mod Bits
 use Rattle.model.specs.Listing.{listing}
 use Rattle.model.specs.Cut.{cutContainer}
 use Rattle.model.specs.Samples.{Holds, verdictOf, passedBy, outcomeOf}
@@ -19,13 +20,14 @@ use Readings.{numbers, parts, frames, ends}
 use Shapes.{lengths, shapeVerdicts, tlvs, tlvVerdicts, uses}
 use Constraints.{unknowns, nodes, links, wishes}
 use Ranks.{ranks}
-use Leaves.{leaves, leafOf, operations, leafByA, long, leafCalls}
+use Leaves.{leaves, leafGiven, operations, leafByA, long, leafCalls}
 use Aggregates.{linkSums, nodeSums}
 use Records.{records, constraints, headers, orders}
 use Choices.{choices, containers}
-use Places.{places, placeOf}
-use Listings.{listings}
+use Places.{places, placeGiven}
+use Listings.{lines}
 use Cuts.{cuts}
+use Bits.{verdicts, refusals as currentBit, containers as ownBits}
 
 pub record Boundaries : Type 0 where
   -- refusals 1 to 4
@@ -49,8 +51,8 @@ pub record Boundaries : Type 0 where
   pub rankBars : Holds verdictOf ranks
   -- leaf answers 31 to 35
   pub byOperation : Holds leafByA operations
-  pub byObject : Holds leafOf leaves
-  pub byLength : Holds leafOf long
+  pub byObject : Holds leafGiven leaves
+  pub byLength : Holds leafGiven long
   pub leafAnswers : Holds outcomeOf leafCalls
   -- updating for this hop
   pub aggregatedLinks : Holds passedBy linkSums
@@ -63,6 +65,10 @@ pub record Boundaries : Type 0 where
   pub choosing : Holds outcomeOf choices
   pub passing : Holds outcomeOf containers
   -- the places of bars, the listing and the cut
-  pub objectPlaces : Holds placeOf places
-  pub texts : Holds listing listings
+  pub objectPlaces : Holds placeGiven places
+  pub texts : Holds listing lines
   pub cutting : Holds cutContainer cuts
+  -- every bit beside the others
+  pub bitVerdicts : Holds verdictOf verdicts
+  pub bitRefusals : Holds sizedRefusal currentBit
+  pub bitContainers : Holds passedBy ownBits

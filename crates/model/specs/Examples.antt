@@ -5,7 +5,7 @@ use lib.ListN.{length, drop, getD}
 use Rattle.model.specs.Choice.{Result}
 use Rattle.model.specs.Listing.{listing}
 use Rattle.model.specs.Untouched.{passedOn}
-use Rattle.model.specs.Samples.{Row, _gives_, Holds, own0, ownLimits, ranked, neighbour0, etxOf, lqlOf, empty, ascii, output, Calling, single, resultOf}
+use Rattle.model.specs.Samples.{Example, _gives_, Holds, own0, ownLimits, ranked, neighbour0, etxOf, lqlOf, empty, ascii, output, Calling, single, resultOf}
 
 -- what a call tells of one candidate: `passed` is the container passed on, `rest` the output behind it; no rank is 65535
 pub record Told : Type 0 where
@@ -45,7 +45,7 @@ abbrev pub whole : List ℕ
 whole =
     0x02 ∷ 0x11 ∷ 0x07 ∷ 0x00 ∷ 0x00 ∷ 0x02 ∷ 0x01 ∷ 0xC9 ∷ 0x02 ∷ 0x02 ∷ 0x00 ∷ 0x02 ∷ 0x08 ∷ 0x00 ∷ 0xC8 ∷ 0x00 ∷ 0x80 ∷ 0x01 ∷ 0xAA ∷ []
 
-abbrev pub table : List (Row Calling Told)
+abbrev pub table : List (Example Calling Told)
 table =
     -- MinHop 256, rank 256, 1 × 3 + 0
     single own0 (ranked 256 1 3 0) empty gives passes 1024 empty
@@ -78,7 +78,7 @@ table =
 
 -- ---- listings
 
-abbrev pub listings : List (Row (List ℕ) (List ℕ))
+abbrev pub listings : List (Example (List ℕ) (List ℕ))
 listings =
     -- the whole container
     whole gives ascii "7 0 0 0 0 0 2\n2 1 0 0 0 0 2\n200 0 0 1 0 0 1\n"

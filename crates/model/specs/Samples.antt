@@ -14,16 +14,16 @@ use Rattle.model.specs.Untouched.{passedOn}
 -- ---- tables
 
 -- a row: what is given, and what document 01 says of it
-pub record Row (A B : Type 0) : Type 0 where
+pub record Example (A B : Type 0) : Type 0 where
   pub given : A
   pub said : B
 
 infix 80 _gives_
-abbrev pub _gives_ : {A B : Type 0} → A → B → Row A B
+abbrev pub _gives_ : {A B : Type 0} → A → B → Example A B
 a gives b = record { given = a; said = b }
 
 -- every row of a table holds of `f`
-abbrev pub Holds : {A B : Type 0} → (A → B) → List (Row A B) → Type 0
+abbrev pub Holds : {A B : Type 0} → (A → B) → List (Example A B) → Type 0
 Holds f table = map (λ r. f (r .given)) table ≡ map (λ r. r .said) table
 
 -- ---- own numbers

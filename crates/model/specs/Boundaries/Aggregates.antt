@@ -3,14 +3,14 @@ use Prim.Native.Nat.{ℕ}
 use mathlib.Core.List.{List, [], _∷_}
 use Rattle.model.specs.declared.Own.{Own}
 use Rattle.model.specs.declared.Neighbour.{Neighbour}
-use Rattle.model.specs.Samples.{Row, _gives_, own0, ownNode, neighbour0, neighbourWith, etxOf, latencyOf, throughputOf, holding, one, Calling, hop}
+use Rattle.model.specs.Samples.{Example, _gives_, own0, ownNode, neighbour0, neighbourWith, etxOf, latencyOf, throughputOf, holding, one, Calling, hop}
 
 -- an aggregated metric by type and mode; the body received, and the body sent
-abbrev pub sum : Own → Neighbour → (type mode : ℕ) → (received sent : List ℕ) → Row Calling (List ℕ)
+abbrev pub sum : Own → Neighbour → (type mode : ℕ) → (received sent : List ℕ) → Example Calling (List ℕ)
 sum own c t m b b′ = hop own c (one t 0x00 m b) gives holding (one t 0x00 m b′)
 
 -- link metrics use the link's values
-abbrev pub linkSums : List (Row Calling (List ℕ))
+abbrev pub linkSums : List (Example Calling (List ℕ))
 linkSums =
     -- throughput, A=0: 1000 + 24; all bytes; up to the maximum, and past it
     sum own0 (throughputOf 24) 4 0x00 (0x00 ∷ 0x00 ∷ 0x03 ∷ 0xE8 ∷ []) (0x00 ∷ 0x00 ∷ 0x04 ∷ 0x00 ∷ [])
@@ -42,7 +42,7 @@ linkSums =
     ∷ []
 
 -- node metrics use own values. Own flags: 0x01 overloaded, 0x02 aggregator, 0x04 energy is known
-abbrev pub nodeSums : List (Row Calling (List ℕ))
+abbrev pub nodeSums : List (Example Calling (List ℕ))
 nodeSums =
     -- NSA, A=1: the larger of each flag
     sum (ownNode 0 0x00 0) neighbour0 1 0x10 (0x00 ∷ 0x00 ∷ []) (0x00 ∷ 0x00 ∷ [])

@@ -4,7 +4,7 @@ use mathlib.Core.List.{List, [], _∷_, _++_}
 use lib.ListN.{replicate}
 use Rattle.model.specs.declared.Own.{Own}
 use Rattle.model.specs.declared.Candidate.{Candidate}
-use Rattle.model.specs.Samples.{Row, _gives_, own0, ownWith, ownCurrent, ranked, etxOf, empty, candidate, Calling, calling, Outcome, nobody, chosen, stopped}
+use Rattle.model.specs.Samples.{Example, _gives_, own0, ownWith, ownCurrent, ranked, etxOf, empty, candidate, Calling, calling, Outcome, nobody, chosen, stopped}
 
 -- a candidate of this advertised rank, one unit away; all containers coincide
 abbrev pub at : (rank : ℕ) → Candidate
@@ -18,7 +18,7 @@ among own cs = calling own cs empty
 abbrev pub judged : (past : ℕ) → List ℕ → List ℕ
 judged n vs = vs ++ replicate n 0
 
-abbrev pub choices : List (Row Calling Outcome)
+abbrev pub choices : List (Example Calling Outcome)
 choices =
     -- no candidate; one; all barred
     among own0 [] gives nobody (judged 16 [])
@@ -66,7 +66,7 @@ lent =
 abbrev pub over : Own → List Candidate → Calling
 over own cs = calling own cs lent
 
-abbrev pub containers : List (Row Calling Outcome)
+abbrev pub containers : List (Example Calling Outcome)
 containers =
     -- the parent's container is passed on, with the parent's numbers
     over own0 (candidate (ranked 100 1 1 0) 0 8 ∷ candidate (ranked 200 1 1 0) 14 6 ∷ [])

@@ -2,7 +2,7 @@
 use Prim.Native.Nat.{ℕ}
 use mathlib.Core.List.{List, [], _∷_, _++_}
 use Rattle.model.specs.declared.Neighbour.{Neighbour}
-use Rattle.model.specs.Samples.{Row, _gives_, own0, neighbour0, nodeOf, linkOf, etxOf, latencyOf, throughputOf, lqlOf, one, Calling, hop}
+use Rattle.model.specs.Samples.{Example, _gives_, own0, neighbour0, nodeOf, linkOf, etxOf, latencyOf, throughputOf, lqlOf, one, Calling, hop}
 
 -- a neighbour beside a container with these bytes of data
 abbrev pub asked : Neighbour → (data′ : List ℕ) → Calling
@@ -18,7 +18,7 @@ wish t b = one t 0x03 0x00 b
 
 -- ---- bar 18
 
-abbrev pub unknowns : List (Row Calling ℕ)
+abbrev pub unknowns : List (Example Calling ℕ)
 unknowns =
     -- unknown type, C=1: O=0 and O=1; C=0, recorded and aggregated
     asked neighbour0 (one 200 0x02 0x00 (0xAA ∷ [])) gives 18
@@ -45,7 +45,7 @@ unknowns =
 
 -- ---- bar 19: node constraints. A node's flags: 0x01 overloaded, 0x02 aggregator, 0x04 energy is known
 
-abbrev pub nodes : List (Row Calling ℕ)
+abbrev pub nodes : List (Example Calling ℕ)
 nodes =
     -- NSA, aggregator bit set
     asked (nodeOf 0 0x02 0) (demand 1 (0x00 ∷ 0x02 ∷ [])) gives 10
@@ -102,7 +102,7 @@ nodes =
 
 -- ---- bar 19: link constraints
 
-abbrev pub links : List (Row Calling ℕ)
+abbrev pub links : List (Example Calling ℕ)
 links =
     -- throughput, limit 1000: 999, 1000, 1001; unknown, though its field is 1001
     asked (throughputOf 999) (demand 4 (0x00 ∷ 0x00 ∷ 0x03 ∷ 0xE8 ∷ [])) gives 19
@@ -139,7 +139,7 @@ links =
 
 -- ---- an optional constraint that isn't met bars nobody
 
-abbrev pub wishes : List (Row Calling ℕ)
+abbrev pub wishes : List (Example Calling ℕ)
 wishes =
     asked neighbour0 (wish 1 (0x00 ∷ 0x02 ∷ [])) gives 10
     ∷ asked neighbour0 (wish 2 (0x00 ∷ 0x00 ∷ [])) gives 10

@@ -1,9 +1,9 @@
 -- The cut of a container.
 use Prim.Native.Nat.{ℕ}
 use mathlib.Core.List.{List, [], _∷_, _++_}
-use Rattle.model.specs.Samples.{Row, _gives_, holding, empty, one}
+use Rattle.model.specs.Samples.{Example, _gives_, holding, empty, one}
 
-abbrev pub cuts : List (Row (List ℕ) (List ℕ))
+abbrev pub cuts : List (Example (List ℕ) (List ℕ))
 cuts =
     empty gives empty
     -- an object of unknown type is dropped, header and body: 0, 8, 200 and 255, in every role

@@ -4,10 +4,10 @@ use mathlib.Core.List.{List, [], _∷_, _++_, map}
 use lib.ListN.{replicate}
 use Rattle.model.specs.declared.Own.{Own}
 use Rattle.model.specs.declared.Neighbour.{Neighbour}
-use Rattle.model.specs.Samples.{Row, _gives_, own0, ownNode, neighbour0, linkOf, etxOf, latencyOf, throughputOf, lqlOf, one, Calling, hop, resultOf, Outcome, stopped}
+use Rattle.model.specs.Samples.{Example, _gives_, own0, ownNode, neighbour0, linkOf, etxOf, latencyOf, throughputOf, lqlOf, one, Calling, hop, resultOf, Outcome, stopped}
 
-abbrev pub leafOf : Calling → ℕ
-leafOf w = resultOf w .answer .leaf
+abbrev pub leafGiven : Calling → ℕ
+leafGiven w = resultOf w .answer .leaf
 
 -- ---- 32: every A
 
@@ -23,9 +23,9 @@ aggregated own c t b = record { own = own; neighbour = c; type = t; body = b }
 
 -- the leaf answer for each A from 0 to 7
 abbrev pub leafByA : Aggregated → List ℕ
-leafByA m = map (λ a. leafOf (hop (m .own) (m .neighbour) (one (m .type) 0x00 (a * 16) (m .body)))) (0 ∷ 1 ∷ 2 ∷ 3 ∷ 4 ∷ 5 ∷ 6 ∷ 7 ∷ [])
+leafByA m = map (λ a. leafGiven (hop (m .own) (m .neighbour) (one (m .type) 0x00 (a * 16) (m .body)))) (0 ∷ 1 ∷ 2 ∷ 3 ∷ 4 ∷ 5 ∷ 6 ∷ 7 ∷ [])
 
-abbrev pub operations : List (Row Aggregated (List ℕ))
+abbrev pub operations : List (Example Aggregated (List ℕ))
 operations =
     -- NSA and NE: maximum and minimum
     aggregated own0 neighbour0 1 (0x00 ∷ 0x00 ∷ []) gives (32 ∷ 0 ∷ 0 ∷ 32 ∷ 32 ∷ 32 ∷ 32 ∷ 32 ∷ [])
@@ -44,7 +44,7 @@ operations =
 
 -- ---- 31, 33, 34
 
-abbrev pub leaves : List (Row Calling ℕ)
+abbrev pub leaves : List (Example Calling ℕ)
 leaves =
     -- 31: aggregated, recorded, optional constraint; 0 and 8 are unknown, 1 and 7 are known
     hop own0 neighbour0 (one 200 0x00 0x00 (0xAA ∷ [])) gives 31
@@ -88,7 +88,7 @@ leaves =
 abbrev pub behind : (filler : ℕ) → (data′ : List ℕ) → List ℕ
 behind n bs = one 200 0x00 0x80 (replicate n 0x00) ++ bs
 
-abbrev pub long : List (Row Calling ℕ)
+abbrev pub long : List (Example Calling ℕ)
 long =
     -- recorded ETX, 6 bytes, leaves with 8: 4 + 243 + 8 = 255, and 256
     hop own0 (etxOf 128) (behind 243 (one 7 0x00 0x80 (0x00 ∷ 0x80 ∷ []))) gives 0
@@ -121,7 +121,7 @@ long =
 abbrev pub leafOnly : ℕ → Outcome
 leafOnly n = stopped 0 512 (10 ∷ replicate 15 0) 0b1 1 n
 
-abbrev pub leafCalls : List (Row Calling Outcome)
+abbrev pub leafCalls : List (Example Calling Outcome)
 leafCalls =
     hop own0 neighbour0 (one 200 0x00 0x00 (0xAA ∷ [])) gives leafOnly 31
     ∷ hop own0 neighbour0 (one 1 0x00 0x00 (0x00 ∷ 0x00 ∷ [])) gives leafOnly 32

@@ -2,10 +2,10 @@
 use Prim.Native.Nat.{ℕ}
 use mathlib.Core.List.{List, [], _∷_, _++_}
 use lib.ListN.{replicate}
-use Rattle.model.specs.Samples.{Row, _gives_, holding, empty, one, ascii}
+use Rattle.model.specs.Samples.{Example, _gives_, holding, empty, one, ascii}
 
-abbrev pub listings : List (Row (List ℕ) (List ℕ))
-listings =
+abbrev pub lines : List (Example (List ℕ) (List ℕ))
+lines =
     -- numbers of one, two and three digits, as type and as length
     empty gives ascii ""
     ∷ holding (one 0 0x00 0x80 []) gives ascii "0 0 0 1 0 0 0\n"

@@ -2,17 +2,17 @@
 use Prim.Native.Nat.{ℕ}
 use mathlib.Core.List.{List, [], _∷_, _++_}
 use lib.ListN.{getD}
-use Rattle.model.specs.Samples.{Row, _gives_, own0, ranked, neighbour0, one, Calling, hop, resultOf}
+use Rattle.model.specs.Samples.{Example, _gives_, own0, ranked, neighbour0, one, Calling, hop, resultOf}
 
 -- the place of the first candidate's bar
-abbrev pub placeOf : Calling → ℕ
-placeOf w = getD (resultOf w .answer .places) 0 0
+abbrev pub placeGiven : Calling → ℕ
+placeGiven w = getD (resultOf w .answer .places) 0 0
 
 -- a recorded object of unknown type, at which there is no bar
 abbrev pub other : List ℕ
 other = one 200 0x00 0x80 []
 
-abbrev pub places : List (Row Calling ℕ)
+abbrev pub places : List (Example Calling ℕ)
 places =
     -- unbarred; bars 11, 14 and 20
     hop own0 neighbour0 other gives 255

@@ -3,7 +3,7 @@ use Prim.Native.Nat.{ℕ}
 use mathlib.Core.List.{List, [], _∷_}
 use Rattle.model.specs.declared.Own.{Own}
 use Rattle.model.specs.declared.Neighbour.{Neighbour}
-use Rattle.model.specs.Samples.{Row, _gives_, ownWith, ownLimits, ranked, empty, holding, one, Calling, single}
+use Rattle.model.specs.Samples.{Example, _gives_, ownWith, ownLimits, ranked, empty, holding, one, Calling, single}
 
 -- MinHopRankIncrease alone
 abbrev pub minhop : ℕ → Own
@@ -12,7 +12,7 @@ minhop m = ownWith m 0 0 0 0x00 0 0
 abbrev pub judging : Own → Neighbour → Calling
 judging own c = single own c empty
 
-abbrev pub ranks : List (Row Calling ℕ)
+abbrev pub ranks : List (Example Calling ℕ)
 ranks =
     -- 20: resulting 65534 and 65535
     judging (minhop 1) (ranked 65533 1 1 0) gives 10

@@ -1,9 +1,9 @@
--- Bars 11 to 17, on each side of each boundary.
+-- Bars 11 to 14, on each side of each boundary.
 use Prim.Native.Nat.{ℕ}
 use mathlib.Core.List.{List, [], _∷_, _++_}
 use lib.ListN.{length, replicate}
 use Rattle.model.specs.declared.Neighbour.{Neighbour}
-use Rattle.model.specs.Samples.{Row, _gives_, own0, ranked, neighbour0, nodeOf, lqlOf, empty, one, candidate, Calling, calling, single, hop}
+use Rattle.model.specs.Samples.{Example, _gives_, own0, ranked, neighbour0, nodeOf, lqlOf, empty, one, candidate, Calling, calling, single, hop}
 
 -- ---- bar 11
 
@@ -11,7 +11,7 @@ use Rattle.model.specs.Samples.{Row, _gives_, own0, ranked, neighbour0, 
 abbrev pub numbersOf : Neighbour → Calling
 numbersOf c = single own0 c empty
 
-abbrev pub numbers : List (Row Calling ℕ)
+abbrev pub numbers : List (Example Calling ℕ)
 numbers =
     -- Sp 0, 1, 9 and 10
     numbersOf (ranked 256 1 0 0) gives 11
@@ -39,10 +39,10 @@ numbers =
 -- ---- bar 12
 
 -- a candidate's container by start and length in a lent run
-abbrev pub part : (start length : ℕ) → (lent : List ℕ) → Calling
+abbrev pub part : (start size : ℕ) → (lent : List ℕ) → Calling
 part s n lent = calling own0 (candidate neighbour0 s n ∷ []) lent
 
-abbrev pub parts : List (Row Calling ℕ)
+abbrev pub parts : List (Example Calling ℕ)
 parts =
     -- ending exactly at the end, and one past it
     part 0 2 (0x02 ∷ 0x00 ∷ []) gives 10
@@ -66,31 +66,31 @@ parts =
 
 -- ---- bar 13
 
-abbrev pub whole : List ℕ → Calling
-whole bs = single own0 neighbour0 bs
+abbrev pub run : List ℕ → Calling
+run bs = single own0 neighbour0 bs
 
-abbrev pub frames : List (Row Calling ℕ)
+abbrev pub frames : List (Example Calling ℕ)
 frames =
     -- no byte, 1 and 2
-    whole [] gives 13
-    ∷ whole (0x02 ∷ []) gives 13
-    ∷ whole (0x02 ∷ 0x00 ∷ []) gives 10
+    run [] gives 13
+    ∷ run (0x02 ∷ []) gives 13
+    ∷ run (0x02 ∷ 0x00 ∷ []) gives 10
     -- byte 0
-    ∷ whole (0x01 ∷ 0x00 ∷ []) gives 13
-    ∷ whole (0x03 ∷ 0x00 ∷ []) gives 13
+    ∷ run (0x01 ∷ 0x00 ∷ []) gives 13
+    ∷ run (0x03 ∷ 0x00 ∷ []) gives 13
     -- D off by one both ways
-    ∷ whole (0x02 ∷ 0x01 ∷ []) gives 13
-    ∷ whole (0x02 ∷ 0x00 ∷ 0xC8 ∷ []) gives 13
-    ∷ whole (0x02 ∷ 0x03 ∷ 0xC8 ∷ 0x00 ∷ 0x80 ∷ 0x00 ∷ []) gives 13
-    ∷ whole (0x02 ∷ 0x04 ∷ 0xC8 ∷ 0x00 ∷ 0x80 ∷ 0x00 ∷ []) gives 10
-    ∷ whole (0x02 ∷ 0x05 ∷ 0xC8 ∷ 0x00 ∷ 0x80 ∷ 0x00 ∷ []) gives 13
+    ∷ run (0x02 ∷ 0x01 ∷ []) gives 13
+    ∷ run (0x02 ∷ 0x00 ∷ 0xC8 ∷ []) gives 13
+    ∷ run (0x02 ∷ 0x03 ∷ 0xC8 ∷ 0x00 ∷ 0x80 ∷ 0x00 ∷ []) gives 13
+    ∷ run (0x02 ∷ 0x04 ∷ 0xC8 ∷ 0x00 ∷ 0x80 ∷ 0x00 ∷ []) gives 10
+    ∷ run (0x02 ∷ 0x05 ∷ 0xC8 ∷ 0x00 ∷ 0x80 ∷ 0x00 ∷ []) gives 13
     -- D = 255, one byte short, exact and one long; and 256 bytes of data
-    ∷ whole (0x02 ∷ 0xFF ∷ 0xC8 ∷ 0x00 ∷ 0x80 ∷ 0xFB ∷ replicate 250 0x00) gives 13
-    ∷ whole (0x02 ∷ 0xFF ∷ 0xC8 ∷ 0x00 ∷ 0x80 ∷ 0xFB ∷ replicate 251 0x00) gives 10
-    ∷ whole (0x02 ∷ 0xFF ∷ 0xC8 ∷ 0x00 ∷ 0x80 ∷ 0xFB ∷ replicate 252 0x00) gives 13
-    ∷ whole (0x02 ∷ 0x00 ∷ 0xC8 ∷ 0x00 ∷ 0x80 ∷ 0xFC ∷ replicate 252 0x00) gives 13
+    ∷ run (0x02 ∷ 0xFF ∷ 0xC8 ∷ 0x00 ∷ 0x80 ∷ 0xFB ∷ replicate 250 0x00) gives 13
+    ∷ run (0x02 ∷ 0xFF ∷ 0xC8 ∷ 0x00 ∷ 0x80 ∷ 0xFB ∷ replicate 251 0x00) gives 10
+    ∷ run (0x02 ∷ 0xFF ∷ 0xC8 ∷ 0x00 ∷ 0x80 ∷ 0xFB ∷ replicate 252 0x00) gives 13
+    ∷ run (0x02 ∷ 0x00 ∷ 0xC8 ∷ 0x00 ∷ 0x80 ∷ 0xFC ∷ replicate 252 0x00) gives 13
     -- before bar 14
-    ∷ whole (0x02 ∷ 0x02 ∷ 0xC8 ∷ []) gives 13
+    ∷ run (0x02 ∷ 0x02 ∷ 0xC8 ∷ []) gives 13
     ∷ []
 
 -- ---- bar 14
@@ -98,7 +98,7 @@ frames =
 abbrev pub inside : (data′ : List ℕ) → Calling
 inside bs = hop own0 neighbour0 bs
 
-abbrev pub ends : List (Row Calling ℕ)
+abbrev pub ends : List (Example Calling ℕ)
 ends =
     -- a header of 1, 2, 3 and 4 bytes
     inside (0xC8 ∷ []) gives 14
@@ -114,7 +114,7 @@ ends =
     ∷ inside (0xC8 ∷ 0x00 ∷ 0x80 ∷ 0x01 ∷ 0xAA ∷ 0xC8 ∷ 0x00 ∷ 0x80 ∷ []) gives 14
     ∷ inside (0xC8 ∷ 0x00 ∷ 0x80 ∷ 0x01 ∷ 0xAA ∷ 0xC8 ∷ 0x00 ∷ 0x80 ∷ 0x01 ∷ []) gives 14
     ∷ inside (0xC8 ∷ 0x00 ∷ 0x80 ∷ 0x01 ∷ 0xAA ∷ 0xC8 ∷ 0x00 ∷ 0x80 ∷ 0x01 ∷ 0xBB ∷ []) gives 10
-    -- decided over the whole container before bars 15 to 17
+    -- decided over the run container before bars 15 to 17
     ∷ inside (one 0x07 0x00 0x00 (0x00 ∷ []) ++ (0xC8 ∷ [])) gives 14
     ∷ inside (one 0x01 0x00 0x80 (0x00 ∷ 0x00 ∷ []) ++ (0xC8 ∷ [])) gives 14
     ∷ []

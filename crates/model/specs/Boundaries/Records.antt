@@ -3,19 +3,19 @@ use Prim.Native.Nat.{ℕ}
 use mathlib.Core.List.{List, [], _∷_, _++_}
 use Rattle.model.specs.declared.Own.{Own}
 use Rattle.model.specs.declared.Neighbour.{Neighbour}
-use Rattle.model.specs.Samples.{Row, _gives_, own0, ownNode, neighbour0, neighbourWith, linkOf, etxOf, latencyOf, throughputOf, lqlOf, holding, empty, one, Calling, hop}
+use Rattle.model.specs.Samples.{Example, _gives_, own0, ownNode, neighbour0, neighbourWith, linkOf, etxOf, latencyOf, throughputOf, lqlOf, holding, empty, one, Calling, hop}
 
 -- ---- recorded metrics
 
 -- a recorded metric by type; the body received, and the body sent
-abbrev pub extend : Own → Neighbour → (type : ℕ) → (received sent : List ℕ) → Row Calling (List ℕ)
+abbrev pub extend : Own → Neighbour → (type : ℕ) → (received sent : List ℕ) → Example Calling (List ℕ)
 extend own c t b b′ = hop own c (one t 0x00 0x80 b) gives holding (one t 0x00 0x80 b′)
 
 -- a recorded metric by type; the body is kept, and P set
-abbrev pub mark : Own → Neighbour → (type : ℕ) → (body : List ℕ) → Row Calling (List ℕ)
+abbrev pub mark : Own → Neighbour → (type : ℕ) → (body : List ℕ) → Example Calling (List ℕ)
 mark own c t b = hop own c (one t 0x00 0x80 b) gives holding (one t 0x04 0x80 b)
 
-abbrev pub records : List (Row Calling (List ℕ))
+abbrev pub records : List (Example Calling (List ℕ))
 records =
     -- throughput: before the first sub-object
     extend own0 (throughputOf 7) 4 (0x00 ∷ 0x00 ∷ 0x03 ∷ 0xE8 ∷ []) (0x00 ∷ 0x00 ∷ 0x00 ∷ 0x07 ∷ 0x00 ∷ 0x00 ∷ 0x03 ∷ 0xE8 ∷ [])
@@ -35,6 +35,7 @@ records =
     -- NE, at the end: own type and energy, I=0, E=1; not the neighbour's
     ∷ extend (ownNode 2 0x04 200) (neighbourWith 256 1 1 0 1 0x04 50 0 0 0 0) 2 (0x09 ∷ 0x64 ∷ []) (0x09 ∷ 0x64 ∷ 0x05 ∷ 0xC8 ∷ [])
     ∷ extend (ownNode 3 0x04 0) neighbour0 2 (0x09 ∷ 0x64 ∷ []) (0x09 ∷ 0x64 ∷ 0x07 ∷ 0x00 ∷ [])
+    ∷ extend (ownNode 1 0x04 255) neighbour0 2 (0x09 ∷ 0x64 ∷ []) (0x09 ∷ 0x64 ∷ 0x03 ∷ 0xFF ∷ [])
     -- energy unknown, though its field is 200: E and E_E both 0, P not set
     ∷ extend (ownNode 2 0x03 200) neighbour0 2 (0x09 ∷ 0x64 ∷ []) (0x09 ∷ 0x64 ∷ 0x04 ∷ 0x00 ∷ [])
     ∷ extend own0 neighbour0 2 (0x09 ∷ 0x64 ∷ []) (0x09 ∷ 0x64 ∷ 0x00 ∷ 0x00 ∷ [])
@@ -46,7 +47,11 @@ records =
     ∷ extend own0 (lqlOf 2) 6 (0x00 ∷ 0x5F ∷ []) (0x00 ∷ 0x5F ∷ 0x41 ∷ [])
     -- counter 0
     ∷ extend own0 (lqlOf 2) 6 (0x00 ∷ 0x40 ∷ []) (0x00 ∷ 0x41 ∷ [])
-    -- another Val; Val 7, and Val 0 too, P not set
+    -- another Val, each of them, 0 too; P not set
+    ∷ extend own0 (lqlOf 1) 6 (0x00 ∷ 0x45 ∷ []) (0x00 ∷ 0x45 ∷ 0x21 ∷ [])
+    ∷ extend own0 (lqlOf 4) 6 (0x00 ∷ 0x45 ∷ []) (0x00 ∷ 0x45 ∷ 0x81 ∷ [])
+    ∷ extend own0 (lqlOf 5) 6 (0x00 ∷ 0x45 ∷ []) (0x00 ∷ 0x45 ∷ 0xA1 ∷ [])
+    ∷ extend own0 (lqlOf 6) 6 (0x00 ∷ 0x45 ∷ []) (0x00 ∷ 0x45 ∷ 0xC1 ∷ [])
     ∷ extend own0 (lqlOf 3) 6 (0x00 ∷ 0x45 ∷ []) (0x00 ∷ 0x45 ∷ 0x61 ∷ [])
     ∷ extend own0 (lqlOf 7) 6 (0x00 ∷ 0x45 ∷ []) (0x00 ∷ 0x45 ∷ 0xE1 ∷ [])
     ∷ extend own0 (lqlOf 0) 6 (0x00 ∷ 0x45 ∷ []) (0x00 ∷ 0x45 ∷ 0x01 ∷ [])
@@ -66,10 +71,10 @@ records =
 -- ---- constraints
 
 -- a constraint by type and flags, 0x03 optional and 0x02 mandatory; the body received, and the body sent
-abbrev pub clear : Own → Neighbour → (type flags : ℕ) → (received sent : List ℕ) → Row Calling (List ℕ)
+abbrev pub clear : Own → Neighbour → (type flags : ℕ) → (received sent : List ℕ) → Example Calling (List ℕ)
 clear own c t f b b′ = hop own c (one t f 0x00 b) gives holding (one t f 0x00 b′)
 
-abbrev pub constraints : List (Row Calling (List ℕ))
+abbrev pub constraints : List (Example Calling (List ℕ))
 constraints =
     -- NSA: byte 0 and the top six bits of byte 1 cleared; own flags don't get in
     clear (ownNode 0 0x03 0) neighbour0 1 0x03 (0xFF ∷ 0xFE ∷ []) (0x00 ∷ 0x02 ∷ [])
@@ -95,7 +100,7 @@ constraints =
 
 -- ---- headers
 
-abbrev pub headers : List (Row Calling (List ℕ))
+abbrev pub headers : List (Example Calling (List ℕ))
 headers =
     -- C=1: reserved bits and R cleared; P, O, A and Prec kept
     hop own0 (etxOf 1) (one 7 0xFA 0xFF (0xFF ∷ 0xFF ∷ [])) gives holding (one 7 0x02 0x7F (0xFF ∷ 0xFF ∷ []))
@@ -122,7 +127,7 @@ headers =
 -- ---- objects keep their order
 
 -- an unknown object, an ETX constraint, an HP metric, an ETX metric, an unknown object again
-abbrev pub orders : List (Row Calling (List ℕ))
+abbrev pub orders : List (Example Calling (List ℕ))
 orders =
     hop own0 (etxOf 0x80) (
     one 200 0x00 0x80 (0x01 ∷ []) ++ one 7 0x02 0x00 (0x01 ∷ 0x00 ∷ []) ++ one 3 0x00 0x00 (0x00 ∷ 0x07 ∷ [])

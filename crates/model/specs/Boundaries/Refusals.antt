@@ -4,7 +4,7 @@ use mathlib.Core.List.{List, [], _∷_}
 use lib.ListN.{replicate}
 use Rattle.model.specs.declared.Own.{Own}
 use Rattle.model.specs.Choice.{Result, call}
-use Rattle.model.specs.Samples.{Row, _gives_, own0, ownWith, ownNode, ownCurrent, neighbour0, empty, candidate, Outcome, outcome, refusedWith}
+use Rattle.model.specs.Samples.{Example, _gives_, own0, ownWith, ownNode, ownCurrent, neighbour0, empty, candidate, Outcome, outcome, refusedWith}
 
 -- a call by the number of its candidates, all alike, and of its output's bytes
 pub record Sized : Type 0 where
@@ -25,7 +25,7 @@ abbrev pub sizedOutcome : Sized → Outcome
 sizedOutcome w = outcome (sizedCall w)
 
 -- the number of a refusal
-abbrev pub refusals : List (Row Sized ℕ)
+abbrev pub refusals : List (Example Sized ℕ)
 refusals =
     sized own0 1 257 gives 0
     -- 1: MinHopRankIncrease 0 and 1; own type 3 and 4
@@ -43,6 +43,8 @@ refusals =
     ∷ sized (ownCurrent 15) 16 257 gives 0
     ∷ sized (ownCurrent 16) 16 257 gives 3
     ∷ sized (ownCurrent 0) 0 257 gives 3
+    ∷ sized (ownCurrent 256) 1 257 gives 3
+    ∷ sized (ownCurrent 18446744073709551615) 16 257 gives 3
     -- a position that is not given is not tested
     ∷ sized (ownWith 256 0 0 0 0x00 0 9) 1 257 gives 0
     -- 4: output of 256 bytes, of none and of 258, also where nothing would be written
@@ -57,7 +59,7 @@ refusals =
     ∷ []
 
 -- all that a refused call tells; the output is untouched
-abbrev pub refusedCalls : List (Row Sized Outcome)
+abbrev pub refusedCalls : List (Example Sized Outcome)
 refusedCalls =
     sized (ownNode 4 0x00 0) 1 257 gives refusedWith 1 (replicate 257 0xAA)
     ∷ sized own0 17 257 gives refusedWith 2 (replicate 257 0xAA)

@@ -2,7 +2,7 @@
 use Prim.Native.Nat.{ℕ}
 use mathlib.Core.List.{List, [], _∷_, _++_, map}
 use lib.ListN.{replicate}
-use Rattle.model.specs.Samples.{Row, _gives_, own0, neighbour0, one, Calling, hop, verdictOf}
+use Rattle.model.specs.Samples.{Example, _gives_, own0, neighbour0, one, Calling, hop, verdictOf}
 
 -- ---- bar 15: lengths
 
@@ -20,7 +20,7 @@ shapes t f m ns = record { type = t; flags = f; mode = m; lengths = ns }
 abbrev pub shapeVerdicts : Shapes → List ℕ
 shapeVerdicts s = map (λ n. verdictOf (hop own0 neighbour0 (one (s .type) (s .flags) (s .mode) (replicate n 0x00)))) (s .lengths)
 
-abbrev pub lengths : List (Row Shapes (List ℕ))
+abbrev pub lengths : List (Example Shapes (List ℕ))
 lengths =
     -- NSA, NE and HP, constraint and aggregated: 2 and TLVs, here of length 0
     shapes 1 0x03 0x00 (0 ∷ 1 ∷ 2 ∷ 3 ∷ 4 ∷ 5 ∷ 6 ∷ []) gives (15 ∷ 15 ∷ 10 ∷ 15 ∷ 10 ∷ 15 ∷ 10 ∷ [])
@@ -72,7 +72,7 @@ tlvVerdicts bs =
     ∷ one 3 0x00 0x00 (0x00 ∷ 0x00 ∷ bs)
     ∷ [])
 
-abbrev pub tlvs : List (Row (List ℕ) (List ℕ))
+abbrev pub tlvs : List (Example (List ℕ) (List ℕ))
 tlvs =
     -- a lone byte
     (0x01 ∷ []) gives replicate 6 15
@@ -88,17 +88,20 @@ tlvs =
     ∷ (0x01 ∷ 0x01 ∷ 0xAA ∷ 0x02 ∷ 0x00 ∷ []) gives replicate 6 10
     ∷ (0x01 ∷ 0x01 ∷ 0xAA ∷ 0x02 ∷ 0x01 ∷ []) gives replicate 6 15
     ∷ (0x01 ∷ 0x01 ∷ 0xAA ∷ 0x02 ∷ 0x01 ∷ 0xBB ∷ []) gives replicate 6 10
+    -- as many as a container holds, the last fitting and overrunning
+    ∷ replicate 248 0x00 gives replicate 6 10
+    ∷ (replicate 246 0x00 ++ (0x00 ∷ 0x01 ∷ [])) gives replicate 6 15
     ∷ []
 
 -- ---- bars 15, 16 and 17
 
-abbrev pub zeros : (type flags mode length : ℕ) → List ℕ
+abbrev pub zeros : (type flags mode size : ℕ) → List ℕ
 zeros t f m n = one t f m (replicate n 0x00)
 
 abbrev pub objects : (data′ : List ℕ) → Calling
 objects bs = hop own0 neighbour0 bs
 
-abbrev pub uses : List (Row Calling ℕ)
+abbrev pub uses : List (Example Calling ℕ)
 uses =
     -- 16: the same C again, whatever O, R, A and P
     objects (zeros 7 0x00 0x80 2 ++ zeros 7 0x00 0x80 2) gives 16
