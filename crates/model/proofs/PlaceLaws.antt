@@ -1,13 +1,16 @@
 -- Header bits for the next hop, and the places of what is unknown.
 use mathlib.Core.Path.{_≡_, refl, sym, ap, subst, _∙_}
 use Prim.Native.Nat.{ℕ, zero, suc, _/_, _%_}
-use mathlib.Core.Bool.{_&&_, and-true, Bool, true, false}
+use mathlib.Core.Bool.{_&&_, and-true, Bool, true, false, not, _||_, or-false}
 use mathlib.Core.List.{List, [], _∷_}
 use native.Mathlib.Omega.{arith}
+use lib.Dec.{eqb}
 use lib.ListN.{drop}
 use Rattle.model.specs.declared.Own.{Own}
 use Rattle.model.specs.declared.Neighbour.{Neighbour}
-use Rattle.model.specs.Object.{Object, isRecorded, object, fieldA, Kind, unknown, lql, node, scalar, kind, Role, constraint, recorded, aggregated, roleBits, roleOf, role}
+use Rattle.model.specs.Object.{Object, kindOf, throughput, latency, etx, known, isRecorded, object, fieldA, Kind, unknown, lql, node, scalar, kind, Role, constraint, recorded, aggregated, roleBits, roleOf, role}
+use Rattle.model.specs.Number.{isUnknown}
+use Rattle.model.specs.Constraint.{linkValue}
 use Rattle.model.specs.Table.{row}
 use Rattle.model.specs.Update.{localValue, valueOr0, onTwo, clear0, clear1, combine1, aggregatedBody, constraintBody, recordedBody, addsNothing, nextBody, nextFlags, nextMode, updateObject, update}
 use Rattle.model.specs.ReadBack.{HeaderNext, HeadersNext}
@@ -32,9 +35,33 @@ header-at t f m zero (suc r) false b b′ e d =
 header-at t f m zero zero p b b′ e d =
     record { type = refl; reserved = omega arith; nextP = omega arith; sameC = omega arith; nextO = rw e (omega arith); nextR = rw e; sameA = refl; samePrec = refl }
 
-pub headers : HeadersNext
+-- what this hop adds nothing to, by type numbers
+abbrev noValueFor : Neighbour → (type : ℕ) → Bool
+noValueFor c t =
+    not (known (kindOf t)) || eqb t 4 && isUnknown (linkValue c throughput) || eqb t 5 && isUnknown (linkValue c latency) || eqb t 7 && isUnknown (linkValue c etx)
+
+or-nothing : (b : Bool) → b || false || false ≡ b
+or-nothing true = refl
+or-nothing false = refl
+
+adds-types : (c : Neighbour) (t : ℕ) → addsNothing c (kindOf t) ≡ noValueFor c t
+unfolding kindOf
+adds-types c zero = refl
+adds-types c (suc zero) = refl
+adds-types c (suc (suc zero)) = refl
+adds-types c (suc (suc (suc zero))) = refl
+adds-types c (suc (suc (suc (suc zero)))) = sym (or-nothing (isUnknown (linkValue c throughput)))
+adds-types c (suc (suc (suc (suc (suc zero))))) = sym (or-false (isUnknown (linkValue c latency)))
+adds-types c (suc (suc (suc (suc (suc (suc zero)))))) = refl
+adds-types c (suc (suc (suc (suc (suc (suc (suc zero))))))) = refl
+adds-types c (suc (suc (suc (suc (suc (suc (suc (suc t)))))))) = refl
+
+header : (own : Own) (c : Neighbour) (o : Object) → HeaderNext o (updateObject own c o) (isRecorded (role o) && addsNothing c (kind o))
 unfolding updateObject roleOf
-headers own c o = header-at (o .type) (o .flags) (o .mode) (o .flags / 2 % 2) (o .mode / 128 % 2) (addsNothing c (kind o)) (o .body) _ refl refl
+header own c o = header-at (o .type) (o .flags) (o .mode) (o .flags / 2 % 2) (o .mode / 128 % 2) (addsNothing c (kind o)) (o .body) _ refl refl
+
+pub headers : HeadersNext
+headers own c o = subst (λ b. HeaderNext o (updateObject own c o) (isRecorded (role o) && b)) (adds-types c (o .type)) (header own c o)
 
 pub drop-onTwo : (f g : ℕ → ℕ) (b : List ℕ) → drop 2 (onTwo f g b) ≡ drop 2 b
 drop-onTwo f g [] = refl
@@ -71,7 +98,7 @@ placed : (own : Own) (c : Neighbour) (o : Object) → Placed o (updateObject own
 unfolding updateObject roleOf
 placed own c o = record {
   type = refl;
-  unknown = λ e. record { body = rw (unknown-kind (kind o) e) (nextBody-unknown own c (role o) (fieldA o) (o .body)); header = always (unknown-kind (kind o) e) (headers own c o) };
+  unknown = λ e. record { body = rw (unknown-kind (kind o) e) (nextBody-unknown own c (role o) (fieldA o) (o .body)); header = always (unknown-kind (kind o) e) (header own c o) };
   tlvs = nextBody-tlvs own c (kind o) (role o) (fieldA o) (o .body);
 }
   where

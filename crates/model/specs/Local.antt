@@ -1,5 +1,6 @@
 -- Demand 2: a verdict depends only on own numbers, that candidate's, its container's bytes and, for bar 12, the length of the lent run.
 use mathlib.Core.Path.{_≡_}
+use mathlib.Core.Bool.{false}
 use Prim.Native.Nat.{ℕ}
 use mathlib.Core.List.{List}
 use mathlib.Core.Option.{some}
@@ -10,11 +11,11 @@ use Rattle.model.specs.Reading.{noPlace}
 use Rattle.model.specs.Verdict.{containerOf, outside}
 use Rattle.model.specs.Choice.{call}
 
--- two candidates, each in its own lent run, that have the same numbers and the same bytes, and are both inside or both not
+-- two candidates, each in its own lent run, with the same numbers, both inside or both not, and if inside with the same bytes
 pub record Alike (lent lent′ : List ℕ) (c c′ : Candidate) : Type 0 where
   pub numbers : c .neighbour ≡ c′ .neighbour
   pub inside : outside lent c ≡ outside lent′ c′
-  pub bytes : containerOf lent c ≡ containerOf lent′ c′
+  pub bytes : outside lent c ≡ false → containerOf lent c ≡ containerOf lent′ c′
 
 -- in any two calls by one node that are not refused, two such candidates get the same verdict, whatever stands beside them
 abbrev pub Local : Type 0

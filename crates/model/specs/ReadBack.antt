@@ -1,6 +1,7 @@
 -- Demand 2: the written container reads back as the received objects, each updated for this hop, no sum wrapped.
 use mathlib.Core.Path.{_≡_}
-use mathlib.Core.Bool.{Bool, cond, _&&_}
+use lib.Dec.{eqb}
+use mathlib.Core.Bool.{Bool, cond, not, _&&_, _||_}
 use Prim.Native.Nat.{_/_, ℕ, _+_, _≤_, _<_, min, max}
 use mathlib.Core.List.{List}
 use lib.ListN.{length, getD}
@@ -8,11 +9,11 @@ use Rattle.model.specs.declared.Quantity.the-variants.{Known}
 use Rattle.model.specs.declared.Own.{Own}
 use Rattle.model.specs.declared.Neighbour.{Neighbour}
 use Rattle.model.specs.declared.Candidate.{Candidate}
-use Rattle.model.specs.Number.{isSet, number}
-use Rattle.model.specs.Object.{Object, bitP, bitC, bitO, bitR, fieldA, fieldPrec, isRecorded, Scalar, scalar, node, hp, kind, aggregated, role}
+use Rattle.model.specs.Number.{isSet, isUnknown, number}
+use Rattle.model.specs.Object.{Object, bitP, bitC, bitO, bitR, fieldA, fieldPrec, isRecorded, Scalar, scalar, node, hp, kind, aggregated, role, throughput, latency, etx, known}
 use Rattle.model.specs.Reading.{wellFormed, reading}
 use Rattle.model.specs.Constraint.{linkValue}
-use Rattle.model.specs.Update.{mostOf, addsNothing, updateObject, update}
+use Rattle.model.specs.Update.{mostOf, updateObject, update}
 use Rattle.model.specs.Choice.{call}
 use Rattle.model.specs.Selection.{PreferredParent}
 use Rattle.model.specs.Untouched.{PassedOn, passedOn}
@@ -33,16 +34,21 @@ pub record HeaderNext (o p : Object) (setP : Bool) : Type 0 where
   pub sameA : fieldA p ≡ fieldA o
   pub samePrec : fieldPrec p ≡ fieldPrec o
 
--- P is set in a recorded metric to which this hop adds nothing
+-- P is set in a recorded metric of unknown type, and of type 4, 5 or 7 where the link's value is unknown
+abbrev pub setsP : Neighbour → Object → Bool
+setsP c o = isRecorded (role o)
+    && (not (known (kind o)) || eqb (o .type) 4 && isUnknown (linkValue c throughput) || eqb (o .type) 5 && isUnknown (linkValue c latency) || eqb (o .type) 7 && isUnknown (linkValue c etx))
+
+-- the header of every object, updated
 abbrev pub HeadersNext : Type 0
-HeadersNext = (own : Own) (c : Neighbour) (o : Object) → HeaderNext o (updateObject own c o) (isRecorded (role o) && addsNothing c (kind o))
+HeadersNext = (own : Own) (c : Neighbour) (o : Object) → HeaderNext o (updateObject own c o) (setsP c o)
 
 -- a sum that stops at the field's maximum, and below it is the whole-number sum
 pub record Sum (most x v sum : ℕ) : Type 0 where
   pub below : x + v ≤ most → sum ≡ x + v
   pub above : most < x + v → sum ≡ most
 
--- an aggregated scalar metric with a known link value v, received as x and sent on as y
+-- an aggregated scalar metric with the known link value v: the number in the body as updated, by that in the body as received
 pub record Aggregates (own : Own) (c : Neighbour) (o : Object) (s : Scalar) (v : ℕ) : Type 0 where
   pub add : fieldA o ≡ 0 → Sum (mostOf s) (number (o .body)) v (number (updateObject own c o .body))
   pub larger : fieldA o ≡ 1 → number (o .body) ≤ mostOf s → v ≤ mostOf s → number (updateObject own c o .body) ≡ max (number (o .body)) v
