@@ -2,7 +2,7 @@
 use mathlib.Core.Path.{_≡_, refl, sym, ap, _∙_}
 use Prim.Native.Nat.{ℕ, zero, suc}
 use native.Mathlib.Omega.{arith}
-use mathlib.Core.Bool.{Bool, false}
+use mathlib.Core.Bool.{true, Bool, false, false≢true}
 use mathlib.Core.List.{List, [], _∷_, map}
 use mathlib.Core.Logic.{_↔_}
 use Rattle.model.specs.declared.Rank.{Rank}
@@ -18,7 +18,7 @@ use Rattle.model.specs.Reading.{noPlace, misframed, dataObjects, runsPas
 use Rattle.model.specs.Constraint.{summary, unknownMandatory, unmet, constraintCases, constraintBar}
 use Rattle.model.specs.Rank.{resulting, rankTooHigh, aboveLowest}
 use Rattle.model.specs.Verdict.{outOfRange, containerOf, outside, rankCases, rankBar, judgeRank, verdict, numberOf}
-use Rattle.model.specs.Exact.{NoneOf, FirstToHold, someHas, objectsIn, objectBars, constraintBars, barsTo14, barsTo17, barsTo19, BarAt, ConstraintAt, BarExact, BarsExact}
+use Rattle.model.specs.Exact.{NoneOf, FirstToHold, someHas, objectsIn, objectBars, constraintBars, barsTo14, barsTo17, barsTo19, BarAt, ConstraintAt, VerdictExact, VerdictsExact, BarExact}
 use Rattle.model.proofs.BoolLaws.{neither}
 use Rattle.model.proofs.NumberLaws.{none-both, none-parts, exact, exact-none, isGiven, given-case, given-none, firstOf-all, given-firstOf, first-with}
 use Rattle.model.proofs.StageLaws.{stage-11, stage-12, stage-13, stage-14, past-14, afterConstraints, afterObjects, stagesOn, reading-stage, object-barred, constraint-barred, rank-barred, stageOf, Numbers, nothing, two-cases, three-cases, casesOf, stage-number, nothing}
@@ -26,27 +26,27 @@ use Rattle.model.proofs.StageLaws.{stage-11, stage-12, stage-13, stage-
 -- ---- bars at an object
 
 -- each of 15, 16 and 17 at an object, and none of them
-object-15 : (s : Standing) → (objectBar s ≡ 15) ↔ FirstToHold [] (malformed s)
+pub object-15 : (s : Standing) → (objectBar s ≡ 15) ↔ FirstToHold [] (malformed s)
 unfolding objectBar
 object-15 s = exact (objectCases s) 0 refl
 
-object-16 : (s : Standing) → (objectBar s ≡ 16) ↔ FirstToHold (malformed s ∷ []) (repeated s)
+pub object-16 : (s : Standing) → (objectBar s ≡ 16) ↔ FirstToHold (malformed s ∷ []) (repeated s)
 unfolding objectBar
 object-16 s = exact (objectCases s) 1 refl
 
-object-17 : (s : Standing) → (objectBar s ≡ 17) ↔ FirstToHold (malformed s ∷ repeated s ∷ []) (misused s)
+pub object-17 : (s : Standing) → (objectBar s ≡ 17) ↔ FirstToHold (malformed s ∷ repeated s ∷ []) (misused s)
 unfolding objectBar
 object-17 s = exact (objectCases s) 2 refl
 
-object-none : (s : Standing) → (objectBar s ≡ 0) ↔ (anyOf (λ t. t s) objectBars ≡ false)
+pub object-none : (s : Standing) → (objectBar s ≡ 0) ↔ (anyOf (λ t. t s) objectBars ≡ false)
 unfolding objectBar
 object-none s = exact-none (objectCases s) refl
 
-object-given : (s : Standing) → isGiven (objectBar s) ≡ anyOf (λ t. t s) objectBars
+pub object-given : (s : Standing) → isGiven (objectBar s) ≡ anyOf (λ t. t s) objectBars
 unfolding objectBar
 object-given s = given-case (objectCases s) refl
 
-object-numbers : (s : Standing) → Numbers 15 16 17 (objectBar s)
+pub object-numbers : (s : Standing) → Numbers 15 16 17 (objectBar s)
 unfolding objectBar
 object-numbers s = three-cases 15 16 17 (malformed s) (repeated s) (misused s)
 
@@ -169,10 +169,10 @@ module _ (own : Own) (lent : List ℕ) (c : Candidate) where
       )
 
   -- the number of bar 20 or 21 that was given
-  rank-given : (m : ℕ) → stageOf m ≡ 20 → verdict own lent c ≡ Barred m noPlace → NoneOf (barsTo19 lent c) × (rankBar own n ≡ m)
-  rank-given m g e =
-      let f = exact cases 6 refl .0 (by-case (Barred m noPlace) 20 g e) in
-      (f .0, rank-barred own n (rankBar own n) m noPlace (f .1) (sym (past19 (f .0)) ∙ e))
+  rank-given : (m place : ℕ) → stageOf m ≡ 20 → verdict own lent c ≡ Barred m place → NoneOf (barsTo19 lent c) × (rankBar own n ≡ m)
+  rank-given m place g e =
+      let f = exact cases 6 refl .0 (by-case (Barred m place) 20 g e) in
+      (f .0, rank-barred own n (rankBar own n) m place (f .1) (sym (past19 (f .0)) ∙ e))
 
   unbarred-is : (q : ℕ) (r : Rank) → q ≡ 0 → judgeRank own n q ≡ Unbarred r → r ≡ record { 0 = resulting own n }
   unbarred-is zero r z e = cc
@@ -188,35 +188,35 @@ module _ (own : Own) (lent : List ℕ) (c : Candidate) where
       let w : _≡_ {A = ℕ} 0 1 = cc in
       omega arith
 
-  bar-exact : BarExact own lent c (verdict own lent c)
-  bar-exact = record {
-    bar-11 = (
+  pub verdict-exact : VerdictExact own lent c (verdict own lent c)
+  verdict-exact = record {
+    verdict-11 = (
       λ e. exact cases 0 refl .0 (by-case (Barred 11 noPlace) 11 refl e),
       λ f. verdict-stages ∙ stage-11 (outOfRange n) (outside lent c) (misframed (containerOf lent c)) (runsPast (containerOf lent c)) rest f,
     );
-    bar-12 = (
+    verdict-12 = (
       λ e. exact cases 1 refl .0 (by-case (Barred 12 noPlace) 12 refl e),
       λ f. verdict-stages ∙ stage-12 (outOfRange n) (outside lent c) (misframed (containerOf lent c)) (runsPast (containerOf lent c)) rest f,
     );
-    bar-13 = (
+    verdict-13 = (
       λ e. exact cases 2 refl .0 (by-case (Barred 13 noPlace) 13 refl e),
       λ f. verdict-stages ∙ stage-13 (outOfRange n) (outside lent c) (misframed (containerOf lent c)) (runsPast (containerOf lent c)) rest f,
     );
-    bar-14 = (
+    verdict-14 = (
       λ e. exact cases 3 refl .0 (by-case (Barred 14 noPlace) 14 refl e),
       λ f. verdict-stages ∙ stage-14 (outOfRange n) (outside lent c) (misframed (containerOf lent c)) (runsPast (containerOf lent c)) rest f,
     );
-    bar-15 = bar-at 14 [] malformed refl object-15;
-    bar-16 = bar-at 15 (malformed ∷ []) repeated refl object-16;
-    bar-17 = bar-at 16 (malformed ∷ repeated ∷ []) misused refl object-17;
-    bar-18 = constraint-at 17 [] unknownMandatory refl (constraint-18 n sum);
-    bar-19 = constraint-at 18 (unknownMandatory ∷ []) (unmet n sum) refl (constraint-19 n sum);
-    bar-20 = (
-      λ e. let (f, q) = rank-given 20 refl e in (f, rank-20 own n .0 q .1),
+    verdict-15 = bar-at 14 [] malformed refl object-15;
+    verdict-16 = bar-at 15 (malformed ∷ []) repeated refl object-16;
+    verdict-17 = bar-at 16 (malformed ∷ repeated ∷ []) misused refl object-17;
+    verdict-18 = constraint-at 17 [] unknownMandatory refl (constraint-18 n sum);
+    verdict-19 = constraint-at 18 (unknownMandatory ∷ []) (unmet n sum) refl (constraint-19 n sum);
+    verdict-20 = (
+      λ e. let (f, q) = rank-given 20 noPlace refl e in (f, rank-20 own n .0 q .1),
       λ f. past19 (f .0) ∙ rw (rank-20 own n .1 (refl, f .1)),
     );
-    bar-21 = (
-      λ e. let (f, q) = rank-given 21 refl e in
+    verdict-21 = (
+      λ e. let (f, q) = rank-given 21 noPlace refl e in
           let g = rank-21 own n .0 q in
           (none-both (barsTo19 lent c) (rankTooHigh own n ∷ []) f (g .0), g .1),
       λ f. let (x, y) = none-parts (barsTo19 lent c) (rankTooHigh own n ∷ []) (f .0) in
@@ -232,6 +232,58 @@ module _ (own : Own) (lent : List ℕ) (c : Candidate) where
     );
   }
 
--- every bar, of every candidate
-pub bars : BarsExact
-bars = bar-exact
+  -- ---- the number alone
+
+  by-number : (m g : ℕ) → stageOf m ≡ g → numberOf (verdict own lent c) ≡ m → firstCase cases ≡ g
+  by-number m g h e = sym decided ∙ ap stageOf e ∙ h
+
+  barred-at : (m : ℕ) → (m ≡ 10 → ⊥) → numberOf (verdict own lent c) ≡ m → (place : ℕ) × (verdict own lent c ≡ Barred m place)
+  barred-at m h e = go (verdict own lent c) refl e
+    where
+      go : (v : Verdict) → verdict own lent c ≡ v → numberOf v ≡ m → (place : ℕ) × (verdict own lent c ≡ Barred m place)
+      go (Unbarred r) q e = absurd (h (sym e))
+      go (Barred k p) q e = (p, q ∙ rw e)
+
+  unbarred-at : numberOf (verdict own lent c) ≡ 10 → (r : Rank) × (verdict own lent c ≡ Unbarred r)
+  unbarred-at e = go (verdict own lent c) refl e
+    where
+      go : (v : Verdict) → verdict own lent c ≡ v → numberOf v ≡ 10 → (r : Rank) × (verdict own lent c ≡ Unbarred r)
+      go (Unbarred r) q e = (r, q)
+      go (Barred k p) q e = absurd (never-10 p (q ∙ rw e))
+
+  -- bars 20 and 21 have no place
+  without-place : (m : ℕ) → stageOf m ≡ 20 → numberOf (verdict own lent c) ≡ m → verdict own lent c ≡ Barred m noPlace
+  without-place m g e =
+      let (p, q) = barred-at m (λ z. let w : stageOf 10 ≡ 20 = rw z at g in omega arith) e in
+      let (f, r) = rank-given m p g q in
+      past19 f ∙ rw r (given-rank m (ap isGiven (sym r) ∙ exact cases 6 refl .0 (by-number m 20 g e) .1))
+    where
+      given-rank : (k : ℕ) → isGiven k ≡ true → judgeRank own n k ≡ Barred k noPlace
+      given-rank zero h = absurd (false≢true h)
+      given-rank (suc k) h = refl
+
+  at-some-place : (m : ℕ) (P : ℕ → Type 0) → (m ≡ 10 → ⊥) → ((place : ℕ) → (verdict own lent c ≡ Barred m place) ↔ P place)
+      → (numberOf (verdict own lent c) ≡ m) ↔ ((place : ℕ) × P place)
+  at-some-place m P h x = (λ e. let (p, q) = barred-at m h e in (p, x p .0 q), λ w. ap numberOf (x (w .0) .1 (w .1)))
+
+  pub bar-exact : BarExact own lent c (numberOf (verdict own lent c))
+  bar-exact =
+      let v = verdict-exact in
+      record {
+        bar-11 = (λ e. exact cases 0 refl .0 (by-number 11 11 refl e), λ f. ap numberOf (v .verdict-11 .1 f));
+        bar-12 = (λ e. exact cases 1 refl .0 (by-number 12 12 refl e), λ f. ap numberOf (v .verdict-12 .1 f));
+        bar-13 = (λ e. exact cases 2 refl .0 (by-number 13 13 refl e), λ f. ap numberOf (v .verdict-13 .1 f));
+        bar-14 = (λ e. exact cases 3 refl .0 (by-number 14 14 refl e), λ f. ap numberOf (v .verdict-14 .1 f));
+        bar-15 = at-some-place 15 _ (λ e. omega arith) (v .verdict-15);
+        bar-16 = at-some-place 16 _ (λ e. omega arith) (v .verdict-16);
+        bar-17 = at-some-place 17 _ (λ e. omega arith) (v .verdict-17);
+        bar-18 = at-some-place 18 _ (λ e. omega arith) (v .verdict-18);
+        bar-19 = at-some-place 19 _ (λ e. omega arith) (v .verdict-19);
+        bar-20 = (λ e. v .verdict-20 .0 (without-place 20 refl e), λ f. ap numberOf (v .verdict-20 .1 f));
+        bar-21 = (λ e. v .verdict-21 .0 (without-place 21 refl e), λ f. ap numberOf (v .verdict-21 .1 f));
+        no-bar = (λ e. let (r, q) = unbarred-at e in v .unbarred r .0 q .0, λ f. ap numberOf (v .unbarred _ .1 (f, refl)));
+      }
+
+-- every verdict, of every candidate
+pub verdicts-exact : VerdictsExact
+verdicts-exact = verdict-exact

@@ -6,11 +6,13 @@ pub mod ChoiceLaws
 pub mod Refusals
 pub mod StageLaws
 pub mod Bars
+pub mod Readings
 pub mod LeafLaws
 pub mod VerdictLaws
 pub mod CallLaws
 pub mod Selection
 pub mod OutgoingLaws
+pub mod Exact
 pub mod Untouched
 pub mod CutLaws
 pub mod ReadingLaws
@@ -19,6 +21,7 @@ pub mod PlaceLaws
 pub mod CutVerdictLaws
 pub mod Unknown
 pub mod SecondCall
+pub mod TlvLaws
 pub mod RoundTrip
 pub mod ShapeLaws
 pub mod ReadBack
@@ -27,3 +30,4 @@ pub mod TypeLaws
 pub mod Computed
 pub mod Examples
 pub mod Boundaries
+pub mod ByteLaws

@@ -105,7 +105,3 @@ module _ (own : Own) (cs : List Candidate) (lent out : List ℕ) (taken : call o
       let h = chosen in
       let o = container-of own cs lent (h .position) (h .rank) (x .candidate) (x .objects) (h .stands) (x .read) (sym leaf-is ∙ l) in
       rw (call-is own cs lent out taken, h .choice, o) (take-append-seam (container (update own (x .candidate .neighbour) (x .objects))) _)
-
--- every leaf answer, of every parent
-pub leaves : LeavesExact
-leaves own cs lent out taken x = rw (leaf-is own cs lent out taken x) (leaf-exact own (x .candidate .neighbour) (x .objects))

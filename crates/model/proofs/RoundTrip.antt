@@ -1,13 +1,22 @@
 -- Reading and writing undo each other.
 use mathlib.Core.Path.{_≡_, refl, sym, ap, _∙_}
-use Prim.Native.Nat.{ℕ, zero, suc, _+_, _*_, _/_, _%_, _^_, _<_}
-use native.Mathlib.Nat.{mod-one, mod-eq-of-lt, pow-succ', add-mul, mul-assoc, add-assoc, one-le-pow}
+use Prim.Native.Nat.{ℕ, zero, suc, _+_, _*_, _/_, _%_, _^_, _≤_, _<_}
+use native.Mathlib.Nat.{mul-le-mul-right, mul-add-div-right, div-eq-of-lt, mod-one, mod-eq-of-lt, pow-succ', add-mul, mul-assoc, add-assoc, one-le-pow}
 use native.Mathlib.Omega.{arith}
+use mathlib.Core.Bool.{true, false≢true}
+use mathlib.Core.List.{List, [], _∷_, _++_}
+use mathlib.Core.Logic.{_↔_}
 use lib.Arith.{mod-mul}
-use lib.ListN.{length}
+use lib.Dec.{leb, ltb}
+use lib.Seq.{length-take-le, drop-append-seam}
+use borrow.Author.Tests.{le-leb, leb-true, ltb-false}
+use lib.ListN.{length, take, drop, length-append, take-append-drop}
 use Rattle.model.specs.Number.{numberFrom, number, bigEndian}
-use Rattle.model.specs.RoundTrip.{RoundTrip}
+use Rattle.model.specs.Reading.{tlvsUpTo, tlvsFit}
+use Rattle.model.specs.RoundTrip.{Tlv, joinTlvs, Bytes, RoundTrip}
+use Rattle.model.proofs.BoolLaws.{both, neither}
 use Rattle.model.proofs.ObjectLaws.{split-join, join-split}
+use Rattle.model.proofs.TlvLaws.{tlvs}
 use Rattle.model.proofs.ReadingLaws.{reading-objects}
 
 pub length-bigEndian : (w v : ℕ) → length (bigEndian w v) ≡ w
@@ -28,6 +37,37 @@ pub number-bigEndian : (w v : ℕ) → v < 256 ^ w → number (bigEndian w v) �
 unfolding number
 number-bigEndian w v h = from-bigEndian w v 0 ∙ rw (mod-eq-of-lt h) (omega arith)
 
+-- ---- the bytes of a number
+
+-- bytes behind a number keep it above them
+from-bytes : (n : ℕ) (bs : List ℕ) → Bytes bs → (k : ℕ) × (numberFrom n bs ≡ n * 256 ^ length bs + k) × (k < 256 ^ length bs)
+from-bytes n [] h = (0, omega arith, omega arith)
+from-bytes n (b ∷ bs) h =
+    let (p, q) = neither (ltb 255 b) _ h in
+    let l : b ≤ 255 = ltb-false 255 b p in
+    let (k, e, s) = from-bytes (n * 256 + b) bs q in
+    let d : b * 256 ^ length bs ≤ 255 * 256 ^ length bs = mul-le-mul-right (256 ^ length bs) l in
+    let w : 256 ^ suc (length bs) ≡ 256 * 256 ^ length bs = pow-succ' 256 (length bs) in
+    (b * 256 ^ length bs + k, e ∙ rw (add-mul (n * 256) b (256 ^ length bs), mul-assoc n 256 (256 ^ length bs), ← w) (omega arith), rw w (omega arith))
+
+above-bytes : (n : ℕ) (bs : List ℕ) → Bytes bs → numberFrom n bs / 256 ^ length bs ≡ n
+above-bytes n bs h =
+    let (k, e, s) = from-bytes n bs h in
+    let z : k / 256 ^ length bs ≡ 0 = div-eq-of-lt s in
+    rw e (mul-add-div-right (one-le-pow (length bs) 256 (omega arith)) n k ∙ omega arith)
+
+bytes-from : (n : ℕ) (bs : List ℕ) → Bytes bs → bigEndian (length bs) (numberFrom n bs) ≡ bs
+bytes-from n [] h = refl
+bytes-from n (b ∷ bs) h =
+    let (p, q) = neither (ltb 255 b) _ h in
+    let l : b ≤ 255 = ltb-false 255 b p in
+    let d : (n * 256 + b) % 256 ≡ b = omega arith in
+    rw (above-bytes (n * 256 + b) bs q, d, bytes-from (n * 256 + b) bs q)
+
+bytes-number : (bs : List ℕ) → Bytes bs → bigEndian (length bs) (number bs) ≡ bs
+unfolding number
+bytes-number bs h = bytes-from 0 bs h
+
 pub round-trip : RoundTrip
 round-trip = record {
   split-join = split-join;
@@ -35,4 +75,6 @@ round-trip = record {
   container-reading = λ bs os e. sym (reading-objects bs os e .whole);
   number-bytes = number-bigEndian;
   length-bytes = length-bigEndian;
+  bytes-number = bytes-number;
+  tlvs = tlvs;
 }

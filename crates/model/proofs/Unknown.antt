@@ -135,8 +135,8 @@ module _ (own : Own) (cs cs′ : List Candidate) (lent lent′ out out′ : List
         stands = rw (first-is, d .choice) (d .stands);
         received = d .objects;
         read = d .read;
-        sent = update own (d .candidate .neighbour) (d .objects);
-        sends = rw (passed-first p) (container-objects (update own (d .candidate .neighbour) (d .objects)));
+        next = update own (d .candidate .neighbour) (d .objects);
+        splits = rw (passed-first p) (container-objects (update own (d .candidate .neighbour) (d .objects)));
         each = update-places own (d .candidate .neighbour) (d .objects);
       }
 

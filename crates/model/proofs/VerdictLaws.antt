@@ -19,7 +19,7 @@ use Rattle.model.specs.Rank.{infinite, resulting, rankTooHigh, aboveLowe
 use Rattle.model.specs.Verdict.{outOfRange, containerOf, outside, judgeReading, verdict, numberOf, isUnbarred}
 use Rattle.model.specs.Exact.{barsTo19}
 use Rattle.model.proofs.BoolLaws.{neither}
-use Rattle.model.proofs.Bars.{bars, never-10}
+use Rattle.model.proofs.Bars.{verdict-exact, never-10}
 use Rattle.model.proofs.NumberLaws.{none-parts}
 
 -- what is known of a candidate that nothing bars
@@ -39,7 +39,7 @@ module _ (own : Own) (lent : List ℕ) (c : Candidate) where
   admitted-rank : (r : Rank) → verdict own lent c ≡ Unbarred r → Admitted own lent c
   unfolding verdict
   admitted-rank r e =
-      let (f, q) = bars own lent c .unbarred r .0 e in
+      let (f, q) = verdict-exact own lent c .unbarred r .0 e in
       let (x, y) = none-parts (barsTo19 lent c) (rankTooHigh own (c .neighbour) ∷ aboveLowest own (c .neighbour) ∷ []) f in
       let (u, v) = neither (outOfRange (c .neighbour)) _ x in
       let (s, t) = neither (outside lent c) _ v in
@@ -68,17 +68,17 @@ pub finite : (own : Own) (c : Neighbour) → rankTooHigh own c ≡ false → res
 unfolding rankTooHigh
 finite own c h = leb-false infinite (resulting own c) (neither (eqb (c .rank .0) infinite) (leb infinite (resulting own c)) h .1)
 
--- units are at least one, and so is MinHopRankIncrease
-in-range : (c : Neighbour) → outOfRange c ≡ false → (1 ≤ c .sp) × (1 ≤ c .rf)
+-- what bar 11 leaves
+pub in-range : (c : Neighbour) → outOfRange c ≡ false → (1 ≤ c .sp) × (1 ≤ c .rf) × (c .lql ≤ 7)
 unfolding outOfRange
 in-range c h =
     let (a, x) = neither _ (ltb 3 (c .nodetype)) h in
-    let (b, x) = neither _ (ltb 7 (c .lql)) a in
+    let (b, q) = neither _ (ltb 7 (c .lql)) a in
     let (d, x) = neither _ (ltb 5 (c .sr)) b in
     let (e, x) = neither _ (ltb 4 (c .rf)) d in
     let (f, r) = neither _ (ltb (c .rf) 1) e in
     let (s, x) = neither (ltb (c .sp) 1) (ltb 9 (c .sp)) f in
-    (ltb-false (c .sp) 1 s, ltb-false (c .rf) 1 r)
+    (ltb-false (c .sp) 1 s, ltb-false (c .rf) 1 r, ltb-false 7 (c .lql) q)
 
 product : (a b : ℕ) → 1 ≤ a → 1 ≤ b → 1 ≤ a * b
 product a b h k = mul-le-mul {n₂ = a} {m₂ = b} h k
@@ -86,7 +86,7 @@ product a b h k = mul-le-mul {n₂ = a} {m₂ = b} h k
 pub rises : (own : Own) (c : Neighbour) → outOfRange c ≡ false → 1 ≤ own .minhop → c .rank .0 < resulting own c
 unfolding resulting
 rises own c h m =
-    let (s, r) = in-range c h in
+    let (s, r, q) = in-range c h in
     let u : 1 ≤ c .rf * c .sp = product (c .rf) (c .sp) r s in
     let p : 1 ≤ (c .rf * c .sp + c .sr) * own .minhop = product (c .rf * c .sp + c .sr) (own .minhop) (omega arith) m in
     omega arith

@@ -5,7 +5,7 @@ use mathlib.Core.Bool.{Bool, true, false, _&&_, _||_}
 use mathlib.Core.List.{List, [], _∷_, _++_, map}
 use mathlib.Core.Logic.{_↔_}
 use mathlib.Core.Option.{Option, none, some}
-use lib.ListN.{length, getElem?, replicate}
+use lib.ListN.{length, getD, getElem?, replicate}
 use lib.Dec.{leb, eqb}
 use Rattle.model.specs.declared.Rank.{Rank}
 use Rattle.model.specs.declared.Answer.{Answer}
@@ -17,7 +17,7 @@ use Rattle.model.specs.declared.Verdict.{Verdict}
 use Rattle.model.specs.declared.Verdict.the-variants.{Unbarred, Barred}
 use Rattle.model.specs.Number.{anyOf}
 use Rattle.model.specs.Object.{Object, bitC, bitR, Standing, standings, kindOf, known}
-use Rattle.model.specs.Reading.{noPlace, misframed, dataObjects, runsPast, malformed, repeated, misused}
+use Rattle.model.specs.Reading.{Reading, refused, wellFormed, reading, noPlace, misframed, dataObjects, runsPast, malformed, repeated, misused}
 use Rattle.model.specs.Constraint.{summary, unknownMandatory, unmet}
 use Rattle.model.specs.Rank.{infinite, resulting, rankTooHigh, aboveLowest}
 use Rattle.model.specs.Verdict.{outOfRange, containerOf, outside, verdict}
@@ -109,27 +109,66 @@ ConstraintAt lent c lower bar place =
     NoneOf (barsTo17 lent c)
     × FirstWith (objectsIn (containerOf lent c)) (constraintBars (c .neighbour) (summary (objectsIn (containerOf lent c)))) lower bar place
 
--- `given`: the verdict on a candidate
-pub record BarExact (own : Own) (lent : List ℕ) (c : Candidate) (given : Verdict) : Type 0 where
-  pub bar-11 : (given ≡ Barred 11 noPlace) ↔ FirstToHold [] (outOfRange (c .neighbour))
-  pub bar-12 : (given ≡ Barred 12 noPlace) ↔ FirstToHold (outOfRange (c .neighbour) ∷ []) (outside lent c)
-  pub bar-13 : (given ≡ Barred 13 noPlace) ↔ FirstToHold (outOfRange (c .neighbour) ∷ outside lent c ∷ []) (misframed (containerOf lent c))
-  pub bar-14 : (given ≡ Barred 14 noPlace)
+-- bars 15 to 17 in a container by itself
+abbrev pub ReadingAt : List ℕ → (lower : List (Standing → Bool)) → (Standing → Bool) → (place : ℕ) → Type 0
+ReadingAt bs lower bar place = NoneOf (misframed bs ∷ runsPast bs ∷ []) × FirstWith (standings [] (objectsIn bs)) objectBars lower bar place
+
+-- `given`: the verdict on a candidate, with the place of the barring object
+pub record VerdictExact (own : Own) (lent : List ℕ) (c : Candidate) (given : Verdict) : Type 0 where
+  pub verdict-11 : (given ≡ Barred 11 noPlace) ↔ FirstToHold [] (outOfRange (c .neighbour))
+  pub verdict-12 : (given ≡ Barred 12 noPlace) ↔ FirstToHold (outOfRange (c .neighbour) ∷ []) (outside lent c)
+  pub verdict-13 : (given ≡ Barred 13 noPlace) ↔ FirstToHold (outOfRange (c .neighbour) ∷ outside lent c ∷ []) (misframed (containerOf lent c))
+  pub verdict-14 : (given ≡ Barred 14 noPlace)
       ↔ FirstToHold (outOfRange (c .neighbour) ∷ outside lent c ∷ misframed (containerOf lent c) ∷ []) (runsPast (containerOf lent c))
-  pub bar-15 : (place : ℕ) → (given ≡ Barred 15 place) ↔ BarAt lent c [] malformed place
-  pub bar-16 : (place : ℕ) → (given ≡ Barred 16 place) ↔ BarAt lent c (malformed ∷ []) repeated place
-  pub bar-17 : (place : ℕ) → (given ≡ Barred 17 place) ↔ BarAt lent c (malformed ∷ repeated ∷ []) misused place
-  pub bar-18 : (place : ℕ) → (given ≡ Barred 18 place) ↔ ConstraintAt lent c [] unknownMandatory place
-  pub bar-19 : (place : ℕ) → (given ≡ Barred 19 place)
+  pub verdict-15 : (place : ℕ) → (given ≡ Barred 15 place) ↔ BarAt lent c [] malformed place
+  pub verdict-16 : (place : ℕ) → (given ≡ Barred 16 place) ↔ BarAt lent c (malformed ∷ []) repeated place
+  pub verdict-17 : (place : ℕ) → (given ≡ Barred 17 place) ↔ BarAt lent c (malformed ∷ repeated ∷ []) misused place
+  pub verdict-18 : (place : ℕ) → (given ≡ Barred 18 place) ↔ ConstraintAt lent c [] unknownMandatory place
+  pub verdict-19 : (place : ℕ) → (given ≡ Barred 19 place)
       ↔ ConstraintAt lent c (unknownMandatory ∷ []) (unmet (c .neighbour) (summary (objectsIn (containerOf lent c)))) place
-  pub bar-20 : (given ≡ Barred 20 noPlace) ↔ FirstToHold (barsTo19 lent c) (rankTooHigh own (c .neighbour))
-  pub bar-21 : (given ≡ Barred 21 noPlace) ↔ FirstToHold (barsTo19 lent c ++ (rankTooHigh own (c .neighbour) ∷ [])) (aboveLowest own (c .neighbour))
+  pub verdict-20 : (given ≡ Barred 20 noPlace) ↔ FirstToHold (barsTo19 lent c) (rankTooHigh own (c .neighbour))
+  pub verdict-21 : (given ≡ Barred 21 noPlace) ↔ FirstToHold (barsTo19 lent c ++ (rankTooHigh own (c .neighbour) ∷ [])) (aboveLowest own (c .neighbour))
   pub unbarred : (r : Rank) → (given ≡ Unbarred r)
       ↔ (NoneOf (barsTo19 lent c ++ (rankTooHigh own (c .neighbour) ∷ aboveLowest own (c .neighbour) ∷ [])) × (r ≡ record { 0 = resulting own (c .neighbour) }))
 
 -- of every candidate
+abbrev pub VerdictsExact : Type 0
+VerdictsExact = (own : Own) (lent : List ℕ) (c : Candidate) → VerdictExact own lent c (verdict own lent c)
+
+-- `given`: the verdict number that a call reports at a candidate's position
+pub record BarExact (own : Own) (lent : List ℕ) (c : Candidate) (given : ℕ) : Type 0 where
+  pub bar-11 : (given ≡ 11) ↔ FirstToHold [] (outOfRange (c .neighbour))
+  pub bar-12 : (given ≡ 12) ↔ FirstToHold (outOfRange (c .neighbour) ∷ []) (outside lent c)
+  pub bar-13 : (given ≡ 13) ↔ FirstToHold (outOfRange (c .neighbour) ∷ outside lent c ∷ []) (misframed (containerOf lent c))
+  pub bar-14 : (given ≡ 14) ↔ FirstToHold (outOfRange (c .neighbour) ∷ outside lent c ∷ misframed (containerOf lent c) ∷ []) (runsPast (containerOf lent c))
+  pub bar-15 : (given ≡ 15) ↔ ((place : ℕ) × BarAt lent c [] malformed place)
+  pub bar-16 : (given ≡ 16) ↔ ((place : ℕ) × BarAt lent c (malformed ∷ []) repeated place)
+  pub bar-17 : (given ≡ 17) ↔ ((place : ℕ) × BarAt lent c (malformed ∷ repeated ∷ []) misused place)
+  pub bar-18 : (given ≡ 18) ↔ ((place : ℕ) × ConstraintAt lent c [] unknownMandatory place)
+  pub bar-19 : (given ≡ 19)
+      ↔ ((place : ℕ) × ConstraintAt lent c (unknownMandatory ∷ []) (unmet (c .neighbour) (summary (objectsIn (containerOf lent c)))) place)
+  pub bar-20 : (given ≡ 20) ↔ FirstToHold (barsTo19 lent c) (rankTooHigh own (c .neighbour))
+  pub bar-21 : (given ≡ 21) ↔ FirstToHold (barsTo19 lent c ++ (rankTooHigh own (c .neighbour) ∷ [])) (aboveLowest own (c .neighbour))
+  pub no-bar : (given ≡ 10) ↔ NoneOf (barsTo19 lent c ++ (rankTooHigh own (c .neighbour) ∷ aboveLowest own (c .neighbour) ∷ []))
+
+-- of every candidate of every call that is not refused
 abbrev pub BarsExact : Type 0
-BarsExact = (own : Own) (lent : List ℕ) (c : Candidate) → BarExact own lent c (verdict own lent c)
+BarsExact = (own : Own) (cs : List Candidate) (lent out : List ℕ) → call own cs lent out .answer .refusal ≡ 0
+    → (i : ℕ) (c : Candidate) → getElem? cs i ≡ some c → BarExact own lent c (getD (call own cs lent out .answer .verdicts) i 0)
+
+-- `given`: what reading a container by itself gives, as the listing does; bars 13 to 17
+pub record ReadingExact (bs : List ℕ) (given : Reading) : Type 0 where
+  pub reading-13 : (given ≡ refused 13 noPlace) ↔ FirstToHold [] (misframed bs)
+  pub reading-14 : (given ≡ refused 14 noPlace) ↔ FirstToHold (misframed bs ∷ []) (runsPast bs)
+  pub reading-15 : (place : ℕ) → (given ≡ refused 15 place) ↔ ReadingAt bs [] malformed place
+  pub reading-16 : (place : ℕ) → (given ≡ refused 16 place) ↔ ReadingAt bs (malformed ∷ []) repeated place
+  pub reading-17 : (place : ℕ) → (given ≡ refused 17 place) ↔ ReadingAt bs (malformed ∷ repeated ∷ []) misused place
+  pub well-formed : (os : List Object) → (given ≡ wellFormed os)
+      ↔ (NoneOf (misframed bs ∷ runsPast bs ∷ someHas objectBars (standings [] (objectsIn bs)) ∷ []) × (objectsIn bs ≡ os))
+
+-- of any bytes
+abbrev pub ReadingsExact : Type 0
+ReadingsExact = (bs : List ℕ) → ReadingExact bs (reading bs)
 
 -- known types are 1 to 7
 abbrev pub KnownTypes : Type 0

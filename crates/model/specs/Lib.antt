@@ -12,9 +12,9 @@ pub mod Cut
 pub mod Selection
 pub mod Exact
 pub mod Untouched
+pub mod RoundTrip
 pub mod ReadBack
 pub mod Local
-pub mod RoundTrip
 pub mod Unknown
 pub mod Samples
 pub mod Examples

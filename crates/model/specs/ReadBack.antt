@@ -16,6 +16,7 @@ use Rattle.model.specs.Constraint.{linkValue}
 use Rattle.model.specs.Update.{mostOf, updateObject, update}
 use Rattle.model.specs.Choice.{call}
 use Rattle.model.specs.Selection.{PreferredParent}
+use Rattle.model.specs.RoundTrip.{Bytes}
 use Rattle.model.specs.Untouched.{PassedOn, passedOn}
 
 -- the container passed on is well-formed, and holds the parent's objects, each updated
@@ -61,3 +62,7 @@ NoSumWraps = (own : Own) (c : Neighbour) (o : Object) (s : Scalar) (v : ℕ) →
 abbrev pub CountsHop : Type 0
 CountsHop = (own : Own) (c : Neighbour) (o : Object) → kind o ≡ node hp → role o ≡ aggregated → fieldA o ≡ 0 → 2 ≤ length (o .body)
     → Sum 255 (getD (o .body) 1 0) 1 (getD (updateObject own c o .body) 1 0)
+
+-- of bytes and of numbers within their types, bytes are passed on
+abbrev pub PassesBytes : Type 0
+PassesBytes = (own : Own) (cs : List Candidate) (lent out : List ℕ) → Bytes lent → own .energy ≤ 255 → PassedOn (call own cs lent out) → Bytes (passedOn (call own cs lent out))

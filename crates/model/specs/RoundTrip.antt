@@ -1,12 +1,28 @@
 -- Reading and writing undo each other.
 use mathlib.Core.Path.{_≡_}
 use Prim.Native.Nat.{ℕ, _<_, _^_}
-use mathlib.Core.List.{List}
+use mathlib.Core.Bool.{true, false}
+use mathlib.Core.List.{List, [], _∷_, _++_}
+use mathlib.Core.Logic.{_↔_}
+use lib.Dec.{ltb}
 use mathlib.Core.Option.{some}
 use lib.ListN.{length}
-use Rattle.model.specs.Number.{number, bigEndian}
+use Rattle.model.specs.Number.{number, bigEndian, anyOf}
 use Rattle.model.specs.Object.{Object, split, join, container}
-use Rattle.model.specs.Reading.{wellFormed, reading}
+use Rattle.model.specs.Reading.{tlvsFit, wellFormed, reading}
+
+-- a TLV, and TLVs end to end
+pub record Tlv : Type 0 where
+  pub type : ℕ
+  pub value : List ℕ
+
+unfoldable pub joinTlvs : List Tlv → List ℕ
+joinTlvs [] = []
+joinTlvs (t ∷ ts) = t .type ∷ length (t .value) ∷ t .value ++ joinTlvs ts
+
+-- every number of a list is a byte
+abbrev pub Bytes : List ℕ → Type 0
+Bytes bs = anyOf (λ b. ltb 255 b) bs ≡ false
 
 pub record RoundTrip : Type 0 where
   pub split-join : (os : List Object) → split (join os) ≡ some os
@@ -15,3 +31,6 @@ pub record RoundTrip : Type 0 where
   pub container-reading : (bs : List ℕ) (os : List Object) → reading bs ≡ wellFormed os → container os ≡ bs
   pub number-bytes : (width v : ℕ) → v < 256 ^ width → number (bigEndian width v) ≡ v
   pub length-bytes : (width v : ℕ) → length (bigEndian width v) ≡ width
+  pub bytes-number : (bs : List ℕ) → Bytes bs → bigEndian (length bs) (number bs) ≡ bs
+  -- bytes fit as TLVs exactly when they are TLVs end to end
+  pub tlvs : (bs : List ℕ) → (tlvsFit bs ≡ true) ↔ ((ts : List Tlv) × (joinTlvs ts ≡ bs))

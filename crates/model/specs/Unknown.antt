@@ -47,14 +47,14 @@ pub record CutBeside (lent lent′ : List ℕ) (c c′ : Candidate) : Type 0 whe
 -- ---- places
 
 -- an unknown object as received and as passed on: the same but for the header bits, where P is set if it is recorded
-pub record Kept (o p : Object) : Type 0 where
+pub record Unaltered (o p : Object) : Type 0 where
   pub body : p .body ≡ o .body
   pub header : HeaderNext o p (isRecorded (role o))
 
 -- an object as received and as passed on at the same index: TLVs stand after the first two body bytes, every byte as received
 pub record Placed (o p : Object) : Type 0 where
   pub type : p .type ≡ o .type
-  pub unknown : known (kind o) ≡ false → Kept o p
+  pub unknown : known (kind o) ≡ false → Unaltered o p
   pub tlvs : row (kind o) .tlvs ≡ true → (role o ≡ recorded → ⊥) → drop 2 (p .body) ≡ drop 2 (o .body)
 
 -- the container passed on, and the parent's
@@ -63,9 +63,9 @@ pub record KeepsPlaces (cs : List Candidate) (lent : List ℕ) (r : Result) : Ty
   pub stands : getElem? cs (r .answer .parent) ≡ some parent
   pub received : List Object
   pub read : reading (containerOf lent parent) ≡ wellFormed received
-  pub sent : List Object
-  pub sends : split (drop 2 (passedOn r)) ≡ some sent
-  pub each : Each Placed received sent
+  pub next : List Object
+  pub splits : split (drop 2 (passedOn r)) ≡ some next
+  pub each : Each Placed received next
 
 -- ---- answers
 

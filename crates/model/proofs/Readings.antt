@@ -1,0 +1,142 @@
+-- Reading a container by itself: bars 13 to 17 exactly when document 01 says.
+use mathlib.Core.Path.{_≡_, refl, sym, ap, _∙_}
+use Prim.Native.Nat.{ℕ, zero, suc}
+use native.Mathlib.Omega.{arith}
+use mathlib.Core.Bool.{Bool, true, false, cond, false≢true, true≢false}
+use mathlib.Core.List.{List, [], _∷_, map}
+use mathlib.Core.Logic.{_↔_}
+use mathlib.Core.Option.{Option, none, some}
+use Rattle.model.specs.Number.{anyOf, Case, _when_, firstCase, firstOf, indexOf}
+use Rattle.model.specs.Object.{Object, Standing, standings}
+use Rattle.model.specs.Reading.{noPlace, misframed, dataObjects, isNone, runsPast, malformed, repeated, misused, objectBar, Reading, refused, wellFormed, readAs, readObjects, reading}
+use Rattle.model.specs.Exact.{NoneOf, FirstToHold, someHas, listOf, objectsIn, objectBars, ReadingAt, ReadingExact, ReadingsExact}
+use Rattle.model.proofs.BoolLaws.{neither}
+use Rattle.model.proofs.NumberLaws.{exact, isGiven, given-none, firstOf-all, given-firstOf, first-with}
+use Rattle.model.proofs.StageLaws.{stageOf, Numbers, nothing, one, two, three}
+use Rattle.model.proofs.Bars.{object-15, object-16, object-17, object-none, object-given, object-numbers}
+
+-- ---- reading as a chain of stages
+
+abbrev stages : (b13 b14 : Bool) → (r i : ℕ) → List Object → Reading
+stages m p r i os = cond m (refused 13 noPlace) (cond p (refused 14 noPlace) (readAs r i os))
+
+abbrev numberRead : Reading → ℕ
+numberRead (refused n p) = n
+numberRead (wellFormed os) = 0
+
+abbrev casesOf : (m p r : Bool) → List Case
+casesOf m p r = 13 when m ∷ 14 when p ∷ 15 when r ∷ []
+
+stage-number : (m p : Bool) (r i : ℕ) (os : List Object) → Numbers 15 16 17 r → stageOf (numberRead (stages m p r i os)) ≡ firstCase (casesOf m p (isGiven r))
+stage-number true p r i os v = refl
+stage-number false true r i os v = refl
+stage-number false false r i os one = refl
+stage-number false false r i os two = refl
+stage-number false false r i os three = refl
+stage-number false false r i os nothing = refl
+
+stage-13 : (m p : Bool) (r i : ℕ) (os : List Object) → FirstToHold [] m → stages m p r i os ≡ refused 13 noPlace
+stage-13 true p r i os f = refl
+stage-13 false p r i os f = absurd (false≢true (f .1))
+
+stage-14 : (m p : Bool) (r i : ℕ) (os : List Object) → FirstToHold (m ∷ []) p → stages m p r i os ≡ refused 14 noPlace
+stage-14 true p r i os f = absurd (true≢false (f .0))
+stage-14 false true r i os f = refl
+stage-14 false false r i os f = absurd (false≢true (f .1))
+
+past-14 : (m p : Bool) (r i : ℕ) (os : List Object) → NoneOf (m ∷ p ∷ []) → stages m p r i os ≡ readAs r i os
+past-14 true p r i os f = absurd (true≢false f)
+past-14 false true r i os f = absurd (true≢false f)
+past-14 false false r i os f = refl
+
+read-barred : (r i n p : ℕ) (os : List Object) → isGiven r ≡ true → readAs r i os ≡ refused n p → (r ≡ n) × (i ≡ p)
+read-barred zero i n p os g e = absurd (false≢true g)
+read-barred (suc r) i n p os g e = (cc, cc)
+
+-- ---- bars 13 to 17
+
+module _ (bs : List ℕ) where
+  abbrev os : List Object
+  os = objectsIn bs
+
+  abbrev number : ℕ
+  number = firstOf objectBar (standings [] os)
+
+  abbrev place : ℕ
+  place = indexOf objectBar (standings [] os)
+
+  reading-stages : reading bs ≡ stages (misframed bs) (runsPast bs) number place os
+  unfolding reading
+  reading-stages = go (misframed bs) (dataObjects bs)
+    where
+      go : (m : Bool) (s : Option (List Object))
+          → cond m (refused 13 noPlace) (readObjects s) ≡ stages m (isNone s) (firstOf objectBar (standings [] (listOf s))) (indexOf objectBar (standings [] (listOf s))) (listOf s)
+      go true s = refl
+      go false none = refl
+      go false (some ts) = refl
+
+  given : isGiven number ≡ someHas objectBars (standings [] os)
+  given = given-firstOf objectBar (λ s. anyOf (λ t. t s) objectBars) object-given (standings [] os)
+
+  abbrev cases : List Case
+  cases = casesOf (misframed bs) (runsPast bs) (someHas objectBars (standings [] os))
+
+  by-case : (r : Reading) (g : ℕ) → stageOf (numberRead r) ≡ g → reading bs ≡ r → firstCase cases ≡ g
+  by-case r g h e =
+      let n = stage-number (misframed bs) (runsPast bs) number place os (firstOf-all (Numbers 15 16 17) objectBar nothing object-numbers (standings [] os)) in
+      rw (← given) (sym n) ∙ ap (λ x. stageOf (numberRead x)) (sym reading-stages ∙ e) ∙ h
+
+  past14 : NoneOf (misframed bs ∷ runsPast bs ∷ []) → reading bs ≡ readAs number place os
+  past14 f = reading-stages ∙ past-14 (misframed bs) (runsPast bs) number place os f
+
+  read-at : (m : ℕ) (lower : List (Standing → Bool)) (bar : Standing → Bool) → stageOf (suc m) ≡ 15
+      → ((s : Standing) → (objectBar s ≡ suc m) ↔ FirstToHold (map (λ t. t s) lower) (bar s))
+      → (p : ℕ) → (reading bs ≡ refused (suc m) p) ↔ ReadingAt bs lower bar p
+  read-at m lower bar g has p =
+      let found = first-with objectBar (standings [] os) m objectBars lower bar has object-none p in (
+        λ e. let f = exact cases 2 refl .0 (by-case (refused (suc m) p) 15 g e) in
+        (f .0, found .0 (read-barred number place (suc m) p os (given ∙ f .1) (sym (past14 (f .0)) ∙ e))),
+        λ w. let (x, y) = found .1 (w .1) in past14 (w .0) ∙ rw (x, y),
+      )
+
+  none-of : firstCase cases ≡ 0 → NoneOf (misframed bs ∷ runsPast bs ∷ someHas objectBars (standings [] os) ∷ [])
+  none-of e = go (misframed bs) (runsPast bs) (someHas objectBars (standings [] os)) e
+    where
+      go : (m p r : Bool) → firstCase (casesOf m p r) ≡ 0 → NoneOf (m ∷ p ∷ r ∷ [])
+      go true p r e = absurd (omega arith)
+      go false true r e = absurd (omega arith)
+      go false false true e = absurd (omega arith)
+      go false false false e = refl
+
+  -- the objects of a container at which nothing bars
+  read-whole : NoneOf (misframed bs ∷ runsPast bs ∷ someHas objectBars (standings [] os) ∷ []) → reading bs ≡ wellFormed os
+  read-whole f =
+      let (m, x) = neither (misframed bs) _ f in
+      let (p, y) = neither (runsPast bs) _ x in
+      let (r, w) = neither (someHas objectBars (standings [] os)) false y in
+      past14 (rw (m, p)) ∙ rw (given-none number (given ∙ r))
+
+  reading-exact : ReadingExact bs (reading bs)
+  reading-exact = record {
+    reading-13 = (
+      λ e. exact cases 0 refl .0 (by-case (refused 13 noPlace) 13 refl e),
+      λ f. reading-stages ∙ stage-13 (misframed bs) (runsPast bs) number place os f,
+    );
+    reading-14 = (
+      λ e. exact cases 1 refl .0 (by-case (refused 14 noPlace) 14 refl e),
+      λ f. reading-stages ∙ stage-14 (misframed bs) (runsPast bs) number place os f,
+    );
+    reading-15 = read-at 14 [] malformed refl object-15;
+    reading-16 = read-at 15 (malformed ∷ []) repeated refl object-16;
+    reading-17 = read-at 16 (malformed ∷ repeated ∷ []) misused refl object-17;
+    well-formed = λ ts. (
+      λ e. let f = none-of (by-case (wellFormed ts) 0 refl e) in (f, same os ts (sym (read-whole f) ∙ e)),
+      λ w. read-whole (w .0) ∙ ap wellFormed (w .1),
+    );
+  }
+    where
+      same : (a b : List Object) → wellFormed a ≡ wellFormed b → a ≡ b
+      same a b e = cc
+
+pub readings : ReadingsExact
+readings = reading-exact

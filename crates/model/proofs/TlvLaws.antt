@@ -1,0 +1,49 @@
+-- Bytes fit as TLVs exactly when they are TLVs end to end.
+use mathlib.Core.Path.{_≡_, refl, sym, ap, _∙_}
+use Prim.Native.Nat.{ℕ, zero, suc, _+_, _*_, _/_, _%_, _^_, _≤_, _<_}
+use native.Mathlib.Nat.{mul-le-mul-right, mul-add-div-right, div-eq-of-lt, mod-one, mod-eq-of-lt, pow-succ', add-mul, mul-assoc, add-assoc, one-le-pow}
+use native.Mathlib.Omega.{arith}
+use mathlib.Core.Bool.{true, false≢true}
+use mathlib.Core.List.{List, [], _∷_, _++_}
+use mathlib.Core.Logic.{_↔_}
+use lib.Arith.{mod-mul}
+use lib.Dec.{leb, ltb}
+use lib.Seq.{length-take-le, drop-append-seam}
+use borrow.Author.Tests.{le-leb, leb-true, ltb-false}
+use lib.ListN.{length, take, drop, length-append, take-append-drop}
+use Rattle.model.specs.Number.{numberFrom, number, bigEndian}
+use Rattle.model.specs.Reading.{tlvsUpTo, tlvsFit}
+use Rattle.model.specs.RoundTrip.{Tlv, joinTlvs, Bytes, RoundTrip}
+use Rattle.model.proofs.BoolLaws.{both, neither}
+use Rattle.model.proofs.ObjectLaws.{split-join, join-split}
+use Rattle.model.proofs.ReadingLaws.{reading-objects}
+
+few-tlvs : (ts : List Tlv) → length ts ≤ length (joinTlvs ts)
+unfolding joinTlvs
+few-tlvs [] = omega arith
+few-tlvs (t ∷ ts) = let ih = few-tlvs ts in omega (arith, length-append (t .value) (joinTlvs ts))
+
+join-fits : (ts : List Tlv) (k : ℕ) → length ts ≤ k → tlvsUpTo k (joinTlvs ts) ≡ true
+unfolding tlvsUpTo joinTlvs
+join-fits [] zero h = refl
+join-fits [] (suc k) h = refl
+join-fits (t ∷ ts) zero h = absurd (omega arith)
+join-fits (t ∷ ts) (suc k) h =
+    let l : length (t .value) ≤ length (t .value ++ joinTlvs ts) = simp length-append (omega arith) in
+    rw (le-leb (length (t .value)) (length (t .value ++ joinTlvs ts)) l, drop-append-seam (t .value) (joinTlvs ts)) (join-fits ts k (omega arith))
+
+fits-join : (k : ℕ) (bs : List ℕ) → tlvsUpTo k bs ≡ true → (ts : List Tlv) × (joinTlvs ts ≡ bs)
+unfolding tlvsUpTo joinTlvs
+fits-join zero [] e = ([], refl)
+fits-join zero (t ∷ bs) e = absurd (false≢true e)
+fits-join (suc k) [] e = ([], refl)
+fits-join (suc k) (t ∷ []) e = absurd (false≢true e)
+fits-join (suc k) (t ∷ n ∷ bs) e =
+    let (p, q) = both (leb n (length bs)) (tlvsUpTo k (drop n bs)) e in
+    let (ts, j) = fits-join k (drop n bs) q in
+    let l = length-take-le n bs (leb-true n (length bs) p) in
+    (record { type = t; value = take n bs } ∷ ts, rw (l, j, take-append-drop n bs))
+
+pub tlvs : (bs : List ℕ) → (tlvsFit bs ≡ true) ↔ ((ts : List Tlv) × (joinTlvs ts ≡ bs))
+unfolding tlvsFit
+tlvs bs = (λ e. fits-join (length bs) bs e, λ w. rw (← w .1) (join-fits (w .0) (length (joinTlvs (w .0))) (few-tlvs (w .0))))
