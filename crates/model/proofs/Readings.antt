@@ -95,7 +95,7 @@ module _ (bs : List ℕ) where
   read-at m lower bar g has p =
       let found = first-with objectBar (standings [] os) m objectBars lower bar has object-none p in (
         λ e. let f = exact cases 2 refl .0 (by-case (refused (suc m) p) 15 g e) in
-        (f .0, found .0 (read-barred number place (suc m) p os (given ∙ f .1) (sym (past14 (f .0)) ∙ e))),
+            (f .0, found .0 (read-barred number place (suc m) p os (given ∙ f .1) (sym (past14 (f .0)) ∙ e))),
         λ w. let (x, y) = found .1 (w .1) in past14 (w .0) ∙ rw (x, y),
       )
 

@@ -29,6 +29,7 @@ use Listings.{lines}
 use Cuts.{cuts}
 use Bits.{verdicts, refusals as currentBit, containers as ownBits}
 
+-- the tables, each computed
 pub record Boundaries : Type 0 where
   -- refusals 1 to 4
   pub refusing : Holds sizedRefusal refusals

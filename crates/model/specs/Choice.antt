@@ -45,6 +45,7 @@ currentPast own n = satisfies (λ p. leb n p) (currentOf own)
 abbrev pub shortOutput : (room : ℕ) → Bool
 shortOutput m = ltb m 257
 
+-- the refusals in document 01's order
 abbrev pub refusalCases : Own → (count room : ℕ) → List Case
 refusalCases own n m = 1 when badOwn own ∷ 2 when tooMany n ∷ 3 when currentPast own n ∷ 4 when shortOutput m ∷ []
 
@@ -73,6 +74,7 @@ abbrev pub preferred : (current : Quantity) → Choice → (position : ℕ) → 
 preferred q Nobody p r = Parent p r
 preferred q (Parent b s) p r = cond (precedes (criteria q p r) (criteria q b s)) (Parent p r) (Parent b s)
 
+-- a verdict beside the best so far: a barred candidate changes nothing
 abbrev pub afterVerdict : (current : Quantity) → Choice → (position : ℕ) → Verdict → Choice
 afterVerdict q b p (Unbarred r) = preferred q b p r
 afterVerdict q b p (Barred n i) = b
@@ -86,6 +88,7 @@ chooseFrom q b p (v ∷ vs) = chooseFrom q (afterVerdict q b p v) (suc p) vs
 abbrev pub choose : (current : Quantity) → List Verdict → Choice
 choose q vs = chooseFrom q Nobody 0 vs
 
+-- a candidate's bit
 abbrev pub unbarredBit : Verdict → ℕ
 unbarredBit (Unbarred r) = 1
 unbarredBit (Barred n i) = 0
@@ -102,18 +105,22 @@ pub data Outgoing : Type 0 where
   noContainer : (leaf : ℕ) → Outgoing
   nextHop : List ℕ → Outgoing
 
+-- a leaf answer withholds the container
 abbrev pub unlessLeaf : (leaf : ℕ) → List ℕ → Outgoing
 unlessLeaf zero bs = nextHop bs
 unlessLeaf (suc n) bs = noContainer (suc n)
 
+-- for a parent whose container is read; a refused container has no unbarred candidate
 abbrev pub outgoingRead : Own → Neighbour → Reading → Outgoing
 outgoingRead own c (refused n i) = noContainer 0
 outgoingRead own c (wellFormed os) = unlessLeaf (leafAnswer own c os) (container (update own c os))
 
+-- for the candidate at the parent's position
 abbrev pub outgoingAt : Own → (lent : List ℕ) → Option Candidate → Outgoing
 outgoingAt own lent none = noContainer 0
 outgoingAt own lent (some c) = outgoingRead own (c .neighbour) (reading (containerOf lent c))
 
+-- what the chosen parent has the node send on
 unfoldable pub outgoing : Own → List Candidate → (lent : List ℕ) → Choice → Outgoing
 outgoing own cs lent Nobody = noContainer 0
 outgoing own cs lent (Parent p r) = outgoingAt own lent (getElem? cs p)
@@ -124,18 +131,22 @@ outgoing own cs lent (Parent p r) = outgoingAt own lent (getElem? cs p)
 abbrev pub noParent : ℕ
 noParent = 255
 
+-- the parent's position that is reported
 abbrev pub parentOf : Choice → ℕ
 parentOf Nobody = noParent
 parentOf (Parent p r) = p
 
+-- the node's rank that is reported: the parent's resulting rank, infinite for none
 abbrev pub rankOf : Choice → Rank
 rankOf Nobody = record { 0 = infinite }
 rankOf (Parent p r) = r
 
+-- the leaf number that is reported: 0 where no leaf answer is given
 abbrev pub leafOf : Outgoing → ℕ
 leafOf (noContainer n) = n
 leafOf (nextHop bs) = 0
 
+-- the length that is reported
 abbrev pub sizeOf : Outgoing → ℕ
 sizeOf (noContainer n) = 0
 sizeOf (nextHop bs) = length bs
@@ -154,6 +165,7 @@ pub record Result : Type 0 where
   pub answer : Answer
   pub output : List ℕ
 
+-- the result of a call that is not refused
 abbrev pub answered : List Verdict → Choice → Outgoing → List ℕ → Result
 answered vs choice o out = record {
   answer = record {
@@ -170,6 +182,7 @@ answered vs choice o out = record {
   output = outputOf o out;
 }
 
+-- the result of a refused call: the number, and nothing else
 abbrev pub refusedBy : (number : ℕ) → List ℕ → Result
 refusedBy n out = record {
   answer = record {
@@ -186,12 +199,15 @@ refusedBy n out = record {
   output = out;
 }
 
+-- the verdicts by position
 abbrev pub verdicts : Own → List Candidate → (lent : List ℕ) → List Verdict
 verdicts own cs lent = map (verdict own lent) cs
 
+-- the choice among the candidates
 abbrev pub choiceOf : Own → List Candidate → (lent : List ℕ) → Choice
 choiceOf own cs lent = choose (currentOf own) (verdicts own cs lent)
 
+-- a refusal takes the place of the result
 abbrev pub unlessRefused : (refusal : ℕ) → Result → List ℕ → Result
 unlessRefused zero r out = r
 unlessRefused (suc n) r out = refusedBy (suc n) out

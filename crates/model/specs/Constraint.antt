@@ -13,12 +13,15 @@ use Rattle.model.specs.Object.{Object, bitO, Kind, unknown, lql, node, s
 
 -- ---- what is known of a neighbour
 
+-- flag 0x01
 abbrev pub isOverloaded : (flags : ℕ) → Bool
 isOverloaded f = isSet (f % 2)
 
+-- flag 0x02
 abbrev pub isAggregator : (flags : ℕ) → Bool
 isAggregator f = isSet (f / 2 % 2)
 
+-- the energy, known by flag 0x04
 abbrev pub energyIn : (flags energy : ℕ) → Quantity
 energyIn f e = knownIf (f / 4 % 2) e
 
@@ -35,6 +38,7 @@ unfoldable pub hopCount : List Object → Quantity
 hopCount [] = Unknown
 hopCount (o ∷ os) = cond (isHp (kind o) && not (isConstraint (role o))) (Known (getD (o .body) 1 0)) (hopCount os)
 
+-- what a container tells the tests of its own constraints
 abbrev pub summary : List Object → Summary
 summary os = record { hops = hopCount os }
 
@@ -52,6 +56,7 @@ metIncluded s e energy limit = s && (not e || satisfies (λ v. ltb limit v) ener
 abbrev pub metExcluded : (sameType e : Bool) → Quantity → (limit : ℕ) → Bool
 metExcluded s e energy limit = not (s && (not e || isUnknown energy || satisfies (λ v. ltb v limit) energy))
 
+-- NE: I (0x08), T (0x06) and E (0x01) of the flags byte
 abbrev pub metNe : (nodetype : ℕ) → Quantity → (flags limit : ℕ) → Bool
 metNe t energy f limit =
     cond (isSet (f / 8 % 2)) (metIncluded (eqb t (f / 2 % 4)) (isSet (f % 2)) energy limit) (metExcluded (eqb t (f / 2 % 4)) (isSet (f % 2)) energy limit)
@@ -81,6 +86,7 @@ unknownMandatory o = mandatory o && not (known (kind o))
 abbrev pub unmet : Neighbour → Summary → Object → Bool
 unmet c s o = mandatory o && known (kind o) && not (met c s (kind o) (o .body))
 
+-- bars 18 and 19 at an object
 abbrev pub constraintCases : Neighbour → Summary → Object → List Case
 constraintCases c s o = 18 when unknownMandatory o ∷ 19 when unmet c s o ∷ []
 

@@ -13,9 +13,11 @@ cutBody constraint t b = cond t (take 2 b) b
 cutBody recorded t b = b
 cutBody aggregated t b = cond t (take 2 b) b
 
+-- an object with its body cut
 abbrev pub cutObject : Object → Object
 cutObject o = object (o .type) (o .flags) (o .mode) (cutBody (role o) (row (kind o) .tlvs) (o .body))
 
+-- an element that is kept or dropped
 abbrev pub keepIf {ℓ} : {A : Type ℓ} → Bool → A → List A → List A
 keepIf true x xs = x ∷ xs
 keepIf false x xs = xs
@@ -25,6 +27,7 @@ unfoldable pub cut : List Object → List Object
 cut [] = []
 cut (o ∷ os) = keepIf (known (kind o)) (cutObject o) (cut os)
 
+-- the data of the objects that are left
 abbrev pub cutData : Option (List Object) → List ℕ
 cutData none = []
 cutData (some os) = join (cut os)

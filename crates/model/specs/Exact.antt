@@ -69,11 +69,13 @@ pub record RefusedAnswer (a : Answer) : Type 0 where
   pub leaf : a .leaf ≡ 0
   pub size : a .size ≡ 0
 
+-- of every refused call
 abbrev pub RefusedAnswers : Type 0
 RefusedAnswers = (own : Own) (cs : List Candidate) (lent out : List ℕ) → (call own cs lent out .answer .refusal ≡ 0 → ⊥) → RefusedAnswer (call own cs lent out .answer)
 
 -- ---- bars 11 to 21
 
+-- the list that is there, or none
 abbrev pub listOf : Option (List Object) → List Object
 listOf none = []
 listOf (some os) = os
@@ -82,28 +84,32 @@ listOf (some os) = os
 abbrev pub objectsIn : List ℕ → List Object
 objectsIn bs = listOf (dataObjects bs)
 
--- the conditions at an object: bars 15 to 17, and bars 18 and 19
+-- the conditions at an object: bars 15 to 17
 abbrev pub objectBars : List (Standing → Bool)
 objectBars = malformed ∷ repeated ∷ misused ∷ []
 
+-- the conditions at an object: bars 18 and 19
 abbrev pub constraintBars : Neighbour → Summary → List (Object → Bool)
 constraintBars c s = unknownMandatory ∷ unmet c s ∷ []
 
--- the conditions of bars 11 to 14; of 11 to 17; of 11 to 19
+-- the conditions of bars 11 to 14
 abbrev pub barsTo14 : (lent : List ℕ) → Candidate → List Bool
 barsTo14 lent c = outOfRange (c .neighbour) ∷ outside lent c ∷ misframed (containerOf lent c) ∷ runsPast (containerOf lent c) ∷ []
 
+-- the conditions of bars 11 to 17
 abbrev pub barsTo17 : (lent : List ℕ) → Candidate → List Bool
 barsTo17 lent c = barsTo14 lent c ++ (someHas objectBars (standings [] (objectsIn (containerOf lent c))) ∷ [])
 
+-- the conditions of bars 11 to 19
 abbrev pub barsTo19 : (lent : List ℕ) → Candidate → List Bool
 barsTo19 lent c =
     barsTo17 lent c ++ (someHas (constraintBars (c .neighbour) (summary (objectsIn (containerOf lent c)))) (objectsIn (containerOf lent c)) ∷ [])
 
--- bars 15 to 17 at the object of an index, and bars 18 and 19
+-- bars 15 to 17 at the object of an index
 abbrev pub BarAt : (lent : List ℕ) → Candidate → (lower : List (Standing → Bool)) → (Standing → Bool) → (place : ℕ) → Type 0
 BarAt lent c lower bar place = NoneOf (barsTo14 lent c) × FirstWith (standings [] (objectsIn (containerOf lent c))) objectBars lower bar place
 
+-- bars 18 and 19 at the object of an index
 abbrev pub ConstraintAt : (lent : List ℕ) → Candidate → (lower : List (Object → Bool)) → (Object → Bool) → (place : ℕ) → Type 0
 ConstraintAt lent c lower bar place =
     NoneOf (barsTo17 lent c)

@@ -16,6 +16,7 @@ pub record Told : Type 0 where
   pub passed : List ℕ
   pub rest : List ℕ
 
+-- what a result tells of its first candidate
 abbrev pub told : Result → Told
 told r = record {
   refusal = r .answer .refusal;
@@ -45,6 +46,7 @@ abbrev pub whole : List ℕ
 whole =
     0x02 ∷ 0x11 ∷ 0x07 ∷ 0x00 ∷ 0x00 ∷ 0x02 ∷ 0x01 ∷ 0xC9 ∷ 0x02 ∷ 0x02 ∷ 0x00 ∷ 0x02 ∷ 0x08 ∷ 0x00 ∷ 0xC8 ∷ 0x00 ∷ 0x80 ∷ 0x01 ∷ 0xAA ∷ []
 
+-- the starred examples, in document 01's order
 abbrev pub table : List (Example Calling Told)
 table =
     -- MinHop 256, rank 256, 1 × 3 + 0
@@ -78,6 +80,7 @@ table =
 
 -- ---- listings
 
+-- the examples of a listing
 abbrev pub listings : List (Example (List ℕ) (List ℕ))
 listings =
     -- the whole container
@@ -88,6 +91,7 @@ listings =
     ∷ (0x02 ∷ 0x03 ∷ 0x07 ∷ 0x00 ∷ 0x00 ∷ []) gives ascii "refused 14\n"
     ∷ []
 
+-- every row holds of the model's call and of its listing
 pub record Examples : Type 0 where
   pub calls : Holds (λ w. told (resultOf w)) table
   pub texts : Holds listing listings

@@ -7,12 +7,15 @@ use lib.Dec.{ltb}
 use Rattle.model.specs.Object.{Object, bitC, bitO, bitR, fieldA, fieldPrec}
 use Rattle.model.specs.Reading.{Reading, refused, wellFormed, reading}
 
+-- ASCII space
 abbrev pub space : ℕ
 space = 32
 
+-- ASCII line feed
 abbrev pub newline : ℕ
 newline = 10
 
+-- ASCII digit
 abbrev pub digit : ℕ → ℕ
 digit d = 48 + d
 
@@ -30,6 +33,7 @@ line n (m ∷ ms) = decimal n ++ (space ∷ line m ms)
 unfoldable pub objectLine : Object → List ℕ
 objectLine o = line (o .type) (bitC o ∷ bitO o ∷ bitR o ∷ fieldA o ∷ fieldPrec o ∷ length (o .body) ∷ [])
 
+-- the lines of a container's objects, in order
 unfoldable pub objectLines : List Object → List ℕ
 objectLines [] = []
 objectLines (o ∷ os) = objectLine o ++ objectLines os
@@ -38,6 +42,7 @@ objectLines (o ∷ os) = objectLine o ++ objectLines os
 abbrev pub refusedWord : List ℕ
 refusedWord = 114 ∷ 101 ∷ 102 ∷ 117 ∷ 115 ∷ 101 ∷ 100 ∷ space ∷ []
 
+-- the text for what was read
 abbrev pub listingOf : Reading → List ℕ
 listingOf (refused n p) = refusedWord ++ line n []
 listingOf (wellFormed os) = objectLines os

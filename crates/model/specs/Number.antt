@@ -19,6 +19,7 @@ abbrev pub satisfies : (ℕ → Bool) → Quantity → Bool
 satisfies f (Known v) = f v
 satisfies f Unknown = false
 
+-- a number that is not known
 abbrev pub isUnknown : Quantity → Bool
 isUnknown (Known v) = false
 isUnknown Unknown = true
@@ -28,6 +29,7 @@ abbrev pub numberFrom : ℕ → List ℕ → ℕ
 numberFrom n [] = n
 numberFrom n (b ∷ bs) = numberFrom (n * 256 + b) bs
 
+-- the number that big-endian bytes hold
 unfoldable pub number : List ℕ → ℕ
 number bs = numberFrom 0 bs
 
@@ -46,6 +48,7 @@ pub record Case : Type 0 where
   pub number : ℕ
   pub holds : Bool
 
+-- a number beside its condition
 infix 80 _when_
 abbrev pub _when_ : ℕ → Bool → Case
 n when b = record { number = n; holds = b }
@@ -65,6 +68,7 @@ unfoldable pub firstOf {ℓ} : {A : Type ℓ} → (A → ℕ) → List A → ℕ
 firstOf f [] = 0
 firstOf f (x ∷ xs) = first (f x) (firstOf f xs)
 
+-- 0 where a number is given here, else one more than the index in the rest
 abbrev pub indexAfter : ℕ → ℕ → ℕ
 indexAfter zero i = suc i
 indexAfter (suc n) i = 0

@@ -17,6 +17,7 @@ unitsOf c = record { 0 = c .rf * c .sp + c .sr }
 abbrev pub grown : Rank → Units → (minhop : ℕ) → ℕ
 grown r u m = r .0 + u .0 * m
 
+-- resulting rank = advertised + (Rf × Sp + Sr) × MinHopRankIncrease, in whole numbers
 unfoldable pub resulting : Own → Neighbour → ℕ
 resulting own c = grown (c .rank) (unitsOf c) (own .minhop)
 

@@ -55,6 +55,7 @@ pub record Aggregates (own : Own) (c : Neighbour) (o : Object) (s : Scalar) (v :
   pub larger : fieldA o ≡ 1 → number (o .body) ≤ mostOf s → v ≤ mostOf s → number (updateObject own c o .body) ≡ max (number (o .body)) v
   pub smaller : fieldA o ≡ 2 → number (o .body) ≤ mostOf s → v ≤ mostOf s → number (updateObject own c o .body) ≡ min (number (o .body)) v
 
+-- of every aggregated scalar metric
 abbrev pub NoSumWraps : Type 0
 NoSumWraps = (own : Own) (c : Neighbour) (o : Object) (s : Scalar) (v : ℕ) → kind o ≡ scalar s → role o ≡ aggregated → linkValue c s ≡ Known v → Aggregates own c o s v
 

@@ -21,6 +21,7 @@ misframed bs = ltb (length bs) 2 || not (eqb (getD bs 0 0) 2) || not (eqb (getD 
 abbrev pub dataObjects : List ℕ → Option (List Object)
 dataObjects bs = split (drop 2 bs)
 
+-- nothing is there
 abbrev pub isNone {ℓ} : {A : Type ℓ} → Option A → Bool
 isNone none = true
 isNone (some x) = false
@@ -37,6 +38,7 @@ tlvsUpTo (suc k) [] = true
 tlvsUpTo (suc k) (t ∷ []) = false
 tlvsUpTo (suc k) (t ∷ n ∷ bs) = leb n (length bs) && tlvsUpTo k (drop n bs)
 
+-- of bytes, which have no more TLVs than bytes
 unfoldable pub tlvsFit : List ℕ → Bool
 unfolding tlvsUpTo
 tlvsFit bs = tlvsUpTo (length bs) bs
@@ -55,6 +57,7 @@ shaped constraint r b = fixedShape r b
 shaped recorded r b = recordedShape r b
 shaped aggregated r b = fixedShape r b
 
+-- a list without elements
 abbrev pub isEmpty : List ℕ → Bool
 isEmpty [] = true
 isEmpty (x ∷ xs) = false
@@ -81,6 +84,7 @@ sameUse o e = eqb (e .type) (o .type) && eqb (bitC e) (bitC o)
 abbrev pub repeated : Standing → Bool
 repeated s = known (kind (s .object)) && anyOf (sameUse (s .object)) (s .earlier)
 
+-- bars 15 to 17 at an object
 abbrev pub objectCases : Standing → List Case
 objectCases s = 15 when malformed s ∷ 16 when repeated s ∷ 17 when misused s ∷ []
 
@@ -93,13 +97,16 @@ pub data Reading : Type 0 where
   refused : (number place : ℕ) → Reading
   wellFormed : List Object → Reading
 
+-- the first object's bar, if there is one
 abbrev pub readAs : (number place : ℕ) → List Object → Reading
 readAs zero p os = wellFormed os
 readAs (suc n) p os = refused (suc n) p
 
+-- objects that are whole, or bar 14
 abbrev pub readObjects : Option (List Object) → Reading
 readObjects none = refused 14 noPlace
 readObjects (some os) = readAs (firstOf objectBar (standings [] os)) (indexOf objectBar (standings [] os)) os
 
+-- bar 13, then 14, then the first object with 15, 16 or 17 (lowest number)
 unfoldable pub reading : List ℕ → Reading
 reading bs = cond (misframed bs) (refused 13 noPlace) (readObjects (dataObjects bs))

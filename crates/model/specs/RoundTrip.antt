@@ -16,6 +16,7 @@ pub record Tlv : Type 0 where
   pub type : ℕ
   pub value : List ℕ
 
+-- TLVs end to end
 unfoldable pub joinTlvs : List Tlv → List ℕ
 joinTlvs [] = []
 joinTlvs (t ∷ ts) = t .type ∷ length (t .value) ∷ t .value ++ joinTlvs ts
@@ -24,6 +25,7 @@ joinTlvs (t ∷ ts) = t .type ∷ length (t .value) ∷ t .value ++ joinTlvs ts
 abbrev pub Bytes : List ℕ → Type 0
 Bytes bs = anyOf (λ b. ltb 255 b) bs ≡ false
 
+-- writing what was read, and reading what was written, gives back the same
 pub record RoundTrip : Type 0 where
   pub split-join : (os : List Object) → split (join os) ≡ some os
   pub join-split : (bs : List ℕ) (os : List Object) → split bs ≡ some os → join os ≡ bs

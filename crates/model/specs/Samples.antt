@@ -18,6 +18,7 @@ pub record Example (A B : Type 0) : Type 0 where
   pub given : A
   pub said : B
 
+-- a row
 infix 80 _gives_
 abbrev pub _gives_ : {A B : Type 0} → A → B → Example A B
 a gives b = record { given = a; said = b }
@@ -28,6 +29,7 @@ Holds f table = map (λ r. f (r .given)) table ≡ map (λ r. r .said) table
 
 -- ---- own numbers
 
+-- own numbers
 abbrev pub ownWith : (minhop maxincrease lowest nodetype flags energy current : ℕ) → Own
 ownWith m x l t f e p = record { minhop = m; maxincrease = x; lowest = record { 0 = l }; nodetype = t; flags = f; energy = e; current = p }
 
@@ -49,6 +51,7 @@ ownCurrent p = ownWith 256 0 0 0 0x10 0 p
 
 -- ---- a neighbour's numbers
 
+-- a neighbour's numbers, the formula's first
 abbrev pub neighbourWith : (rank rf sp sr nodetype flags energy lql etx latency throughput : ℕ) → Neighbour
 neighbourWith r rf sp sr t f e q x l p =
     record { rank = record { 0 = r }; sp = sp; rf = rf; sr = sr; nodetype = t; flags = f; energy = e; lql = q; etx = x; latency = l; throughput = p }
@@ -69,15 +72,19 @@ nodeOf t f e = neighbourWith 256 1 1 0 t f e 0 0 0 0
 abbrev pub linkOf : (flags lql etx latency throughput : ℕ) → Neighbour
 linkOf f q x l p = neighbourWith 256 1 1 0 0 f 0 q x l p
 
+-- a link of known ETX
 abbrev pub etxOf : (value : ℕ) → Neighbour
 etxOf v = linkOf 0x08 0 v 0 0
 
+-- a link of known latency
 abbrev pub latencyOf : (value : ℕ) → Neighbour
 latencyOf v = linkOf 0x10 0 0 v 0
 
+-- a link of known throughput
 abbrev pub throughputOf : (value : ℕ) → Neighbour
 throughputOf v = linkOf 0x20 0 0 0 v
 
+-- a link of this LQL
 abbrev pub lqlOf : (value : ℕ) → Neighbour
 lqlOf v = linkOf 0x00 v 0 0 0
 
@@ -87,6 +94,7 @@ lqlOf v = linkOf 0x00 v 0 0 0
 abbrev pub holding : (data′ : List ℕ) → List ℕ
 holding bs = 0x02 ∷ length bs ∷ bs
 
+-- a container without objects
 abbrev pub empty : List ℕ
 empty = 0x02 ∷ 0x00 ∷ []
 
@@ -105,6 +113,7 @@ output = replicate 257 0xAA
 
 -- ---- calls
 
+-- a neighbour whose container stands at a start, with a size
 abbrev pub candidate : Neighbour → (start size : ℕ) → Candidate
 candidate c s n = record { neighbour = c; start = s; size = n }
 
@@ -114,6 +123,7 @@ pub record Calling : Type 0 where
   pub candidates : List Candidate
   pub lent : List ℕ
 
+-- a call from its parts
 abbrev pub calling : Own → List Candidate → (lent : List ℕ) → Calling
 calling own cs lent = record { own = own; candidates = cs; lent = lent }
 
@@ -125,6 +135,7 @@ single own c lent = calling own (candidate c 0 (length lent) ∷ []) lent
 abbrev pub hop : Own → Neighbour → (data′ : List ℕ) → Calling
 hop own c bs = single own c (holding bs)
 
+-- the result of a call on the sample output
 abbrev pub resultOf : Calling → Result
 resultOf w = call (w .own) (w .candidates) (w .lent) output
 
@@ -138,6 +149,7 @@ passedBy w = passedOn (resultOf w)
 
 -- ---- what a call tells
 
+-- a whole result but for the places
 pub record Outcome : Type 0 where
   pub refusal : ℕ
   pub parent : ℕ
@@ -149,6 +161,7 @@ pub record Outcome : Type 0 where
   pub size : ℕ
   pub output : List ℕ
 
+-- what a result tells
 abbrev pub outcome : Result → Outcome
 outcome r = record {
   refusal = r .answer .refusal;
@@ -162,6 +175,7 @@ outcome r = record {
   output = r .output;
 }
 
+-- what a call tells
 abbrev pub outcomeOf : Calling → Outcome
 outcomeOf w = outcome (resultOf w)
 

@@ -6,6 +6,7 @@ use lib.Dec.{eqb}
 use Rattle.model.specs.Number.{anyOf}
 use Rattle.model.specs.Object.{Kind, unknown, lql, node, scalar, nsa, ne, hp, throughput, latency, etx}
 
+-- a row of the table
 pub record Row : Type 0 where
   -- the fixed bytes of a constraint or an aggregated metric, and whether TLVs follow them
   pub base : ℕ
@@ -17,9 +18,11 @@ pub record Row : Type 0 where
   -- the A that an aggregated metric may have
   pub allows : List ℕ
 
+-- a row from its columns
 abbrev pub rowWith : (base : ℕ) (tlvs records : Bool) (lead size : ℕ) → List ℕ → Row
 rowWith b t r l s a = record { base = b; tlvs = t; records = r; lead = l; size = s; allows = a }
 
+-- the table; a type that is not known has an empty row, which nothing asks for
 abbrev pub row : Kind → Row
 row unknown = rowWith 0 false false 0 0 []
 row (node nsa) = rowWith 2 true false 0 0 (1 ∷ 2 ∷ [])
@@ -30,5 +33,6 @@ row (scalar latency) = rowWith 4 false true 0 4 (0 ∷ 1 ∷ 2 ∷ [])
 row lql = rowWith 2 false true 1 1 []
 row (scalar etx) = rowWith 2 false true 0 2 (0 ∷ 1 ∷ 2 ∷ [])
 
+-- an A that the type's row allows
 abbrev pub allowed : Kind → (a : ℕ) → Bool
 allowed k a = anyOf (eqb a) (row k .allows)

@@ -1,4 +1,4 @@
--- Demand 3: what is unknown changes no answer, but that an unknown mandatory constraint bars; what is passed on keeps it.
+-- Demand 3: what is unknown changes no parent, rank, verdict, bit or count, but that an unknown mandatory constraint bars; what is passed on keeps it in its place.
 use mathlib.Core.Path.{_≡_}
 use Prim.Native.Nat.{ℕ}
 use mathlib.Core.Bool.{Bool, true, false, not, _||_}
@@ -77,6 +77,7 @@ barredAt r i = not (eqb (getD (r .answer .verdicts) i 0) 10)
 abbrev pub holdsUnknown : (lent : List ℕ) → Candidate → Bool
 holdsUnknown lent c = anyOf unknownMandatory (objectsIn (containerOf lent c))
 
+-- parent, rank, verdict numbers, candidate bits and count are the same
 pub record SameAnswers (a a′ : Answer) : Type 0 where
   pub parent : a .parent ≡ a′ .parent
   pub rank : a .rank ≡ a′ .rank

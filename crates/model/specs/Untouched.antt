@@ -19,6 +19,7 @@ pub record PassedOn (r : Result) : Type 0 where
 abbrev pub passedOn : Result → List ℕ
 passedOn r = take (r .answer .size) (r .output)
 
+-- what a call leaves of the output
 pub record Untouched (out : List ℕ) (r : Result) : Type 0 where
   -- a refused call, a call with no candidate unbarred and a leaf answer leave the output as it was
   pub refused : (r .answer .refusal ≡ 0 → ⊥) → (r .output ≡ out) × (r .answer .size ≡ 0)

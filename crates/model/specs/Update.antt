@@ -24,6 +24,7 @@ localValue own c (node hp) = Known 1
 localValue own c (scalar s) = linkValue c s
 localValue own c lql = Known (c .lql)
 
+-- a known value; an unknown one is asked for nowhere, since leaf answer 33 comes first
 abbrev pub valueOr0 : Quantity → ℕ
 valueOr0 (Known v) = v
 valueOr0 Unknown = 0
@@ -62,6 +63,7 @@ widthOf s = row (scalar s) .base
 abbrev pub mostOf : Scalar → ℕ
 mostOf s = 256 ^ widthOf s - 1
 
+-- the body of an aggregated metric, combined with the local value
 unfoldable pub aggregatedBody : Kind → (a v : ℕ) → List ℕ → List ℕ
 aggregatedBody unknown a v b = b
 aggregatedBody lql a v b = b
@@ -106,6 +108,7 @@ abbrev pub countLevel : (val : ℕ) → List ℕ → List ℕ
 countLevel v [] = (v * 32 + 1) ∷ []
 countLevel v (x ∷ t) = cond (eqb (x / 32) v && ltb (x % 32) 31) ((x + 1) ∷ t) (x ∷ countLevel v t)
 
+-- the body of a recorded LQL: byte 0 cleared, the link's level counted
 abbrev pub countedBody : (val : ℕ) → List ℕ → List ℕ
 countedBody v [] = []
 countedBody v (x ∷ t) = 0 ∷ countLevel v t
@@ -130,6 +133,7 @@ addsNothing c (scalar s) = isUnknown (linkValue c s)
 
 -- ---- the object for the next hop
 
+-- the body for the next hop
 abbrev pub nextBody : Own → Neighbour → Kind → Role → (a : ℕ) → List ℕ → List ℕ
 nextBody own c k constraint a b = constraintBody k b
 nextBody own c k recorded a b = recordedBody own c k b
@@ -147,6 +151,7 @@ nextMode constraint m = m % 128
 nextMode recorded m = m
 nextMode aggregated m = m
 
+-- an object updated for this hop
 unfoldable pub updateObject : Own → Neighbour → Object → Object
 updateObject own c o = object (o .type) (nextFlags (role o) (addsNothing c (kind o)) (o .flags)) (nextMode (role o) (o .mode)) (nextBody own c (kind o) (role o) (fieldA o) (o .body))
 
@@ -181,6 +186,7 @@ noValue own c o = isAggregated (role o) && (isUnknown (localValue own c (kind o)
 abbrev pub fullCount : Object → Bool
 fullCount o = not (isConstraint (role o)) && isHp (kind o) && eqb (getD (o .body) 1 0) 255
 
+-- 31 to 34 at an object
 abbrev pub leafCases : Own → Neighbour → Object → List Case
 leafCases own c o = 31 when unknownAggregated o ∷ 32 when notAllowed o ∷ 33 when noValue own c o ∷ 34 when fullCount o ∷ []
 

@@ -26,6 +26,7 @@ containerOf lent c = take (c .size) (drop (c .start) lent)
 abbrev pub outside : (lent : List ℕ) → Candidate → Bool
 outside lent c = ltb (length lent) (c .start + c .size)
 
+-- bars 20 and 21
 abbrev pub rankCases : Own → Neighbour → List Case
 rankCases own c = 20 when rankTooHigh own c ∷ 21 when aboveLowest own c ∷ []
 
@@ -33,18 +34,22 @@ rankCases own c = 20 when rankTooHigh own c ∷ 21 when aboveLowest own c ∷ []
 unfoldable pub rankBar : Own → Neighbour → ℕ
 rankBar own c = firstCase (rankCases own c)
 
+-- past the objects: bars 20 and 21, or unbarred
 abbrev pub judgeRank : Own → Neighbour → (bar : ℕ) → Verdict
 judgeRank own c zero = Unbarred (record { 0 = resulting own c })
 judgeRank own c (suc n) = Barred (suc n) noPlace
 
+-- the first object's bar of 18 and 19, if there is one
 abbrev pub judgeObjects : Own → Neighbour → (bar place : ℕ) → Verdict
 judgeObjects own c zero p = judgeRank own c (rankBar own c)
 judgeObjects own c (suc n) p = Barred (suc n) p
 
+-- past bars 11 and 12, by what reading the container gives
 abbrev pub judgeReading : Own → Neighbour → Reading → Verdict
 judgeReading own c (refused n p) = Barred n p
 judgeReading own c (wellFormed os) = judgeObjects own c (firstOf (constraintBar c (summary os)) os) (indexOf (constraintBar c (summary os)) os)
 
+-- document 01's verdict: 11 to 14 in order, then the first object with 15, 16 or 17, then the first with 18 or 19, then 20, 21
 unfoldable pub verdict : Own → (lent : List ℕ) → Candidate → Verdict
 verdict own lent c = cond (outOfRange (c .neighbour)) (Barred 11 noPlace) (cond (outside lent c) (Barred 12 noPlace) (judgeReading own (c .neighbour) (reading (containerOf lent c))))
 
@@ -53,10 +58,12 @@ abbrev pub numberOf : Verdict → ℕ
 numberOf (Unbarred r) = 10
 numberOf (Barred n p) = n
 
+-- the place of a verdict
 abbrev pub placeOf : Verdict → ℕ
 placeOf (Unbarred r) = noPlace
 placeOf (Barred n p) = p
 
+-- a verdict that does not bar
 abbrev pub isUnbarred : Verdict → Bool
 isUnbarred (Unbarred r) = true
 isUnbarred (Barred n p) = false
