@@ -11,12 +11,11 @@ use Rattle.model.specs.declared.Quantity.{Quantity}
 use Rattle.model.specs.declared.Quantity.the-variants.{Known, Unknown}
 use Rattle.model.specs.declared.Own.{Own}
 use Rattle.model.specs.declared.Neighbour.{Neighbour}
-use Rattle.model.specs.declared.Candidate.{Candidate}
 use Rattle.model.specs.Number.{isSet, anyOf, number, bigEndian}
-use Rattle.model.specs.Object.{Object, fieldA, join, container, Kind, unknown, lql, node, scalar, Node, nsa, ne, hp, Scalar, throughput, latency, etx, kind, Role, constraint, recorded, aggregated, role}
-use Rattle.model.specs.Constraint.{energyIn, linkValue}
-use Rattle.model.specs.Verdict.{outOfRange, containerOf}
-use Rattle.model.specs.Update.{localValue, valueOr0, combine, onTwo, clear0, combine1, widthOf, mostOf, aggregatedBody, clear1, constraintBody, subObject, clearEach, ownEnergy, countLevel, countedBody, recordedBody, addsNothing, nextBody, nextFlags, nextMode, updateObject, update, leafAnswer}
+use Rattle.model.specs.Object.{Object, fieldA, join, container, Kind, unknown, lql, node, scalar, Node, nsa, ne, hp, throughput, latency, etx, kind, Role, constraint, recorded, aggregated, role}
+use Rattle.model.specs.Constraint.{linkValue}
+use Rattle.model.specs.Verdict.{containerOf}
+use Rattle.model.specs.Update.{localValue, valueOr0, combine, onTwo, clear0, combine1, widthOf, mostOf, aggregatedBody, clear1, constraintBody, subObject, clearEach, ownEnergy, countLevel, countedBody, recordedBody, addsNothing, nextBody, nextFlags, nextMode, updateObject, update}
 use Rattle.model.specs.RoundTrip.{Bytes}
 use Rattle.model.specs.ReadBack.{PassesBytes}
 use Rattle.model.proofs.BoolLaws.{both, neither}

@@ -19,6 +19,7 @@ pub mod ReadingLaws
 pub mod UpdateLaws
 pub mod PlaceLaws
 pub mod CutVerdictLaws
+pub mod Places
 pub mod Unknown
 pub mod SecondCall
 pub mod TlvLaws

@@ -20,7 +20,7 @@ use Rattle.model.specs.Verdict.{containerOf}
 use Rattle.model.specs.Update.{update, tooLong, leafAnswer}
 use Rattle.model.specs.Choice.{Outgoing, noContainer, nextHop, unlessLeaf, outgoing, noParent, leafOf, choiceOf, call}
 use Rattle.model.specs.Selection.{PreferredParent}
-use Rattle.model.specs.Exact.{someHas, leafTests, LeavesExact}
+use Rattle.model.specs.Exact.{someHas, leafTests}
 use Rattle.model.specs.Untouched.{passedOn}
 use Rattle.model.proofs.BoolLaws.{neither}
 use Rattle.model.proofs.LeafLaws.{leaf-exact}

@@ -3,18 +3,14 @@ use mathlib.Core.Path.{_≡_, refl, sym, ap, _∙_}
 use Prim.Native.Nat.{ℕ, zero, suc, _+_, _*_, _/_, _%_, _^_, _≤_, _<_}
 use native.Mathlib.Nat.{mul-le-mul-right, mul-add-div-right, div-eq-of-lt, mod-one, mod-eq-of-lt, pow-succ', add-mul, mul-assoc, add-assoc, one-le-pow}
 use native.Mathlib.Omega.{arith}
-use mathlib.Core.Bool.{true, false≢true}
-use mathlib.Core.List.{List, [], _∷_, _++_}
-use mathlib.Core.Logic.{_↔_}
+use mathlib.Core.List.{List, [], _∷_}
 use lib.Arith.{mod-mul}
-use lib.Dec.{leb, ltb}
-use lib.Seq.{length-take-le, drop-append-seam}
-use borrow.Author.Tests.{le-leb, leb-true, ltb-false}
-use lib.ListN.{length, take, drop, length-append, take-append-drop}
+use lib.Dec.{ltb}
+use borrow.Author.Tests.{ltb-false}
+use lib.ListN.{length}
 use Rattle.model.specs.Number.{numberFrom, number, bigEndian}
-use Rattle.model.specs.Reading.{tlvsUpTo, tlvsFit}
-use Rattle.model.specs.RoundTrip.{Tlv, joinTlvs, Bytes, RoundTrip}
-use Rattle.model.proofs.BoolLaws.{both, neither}
+use Rattle.model.specs.RoundTrip.{Bytes, RoundTrip}
+use Rattle.model.proofs.BoolLaws.{neither}
 use Rattle.model.proofs.ObjectLaws.{split-join, join-split}
 use Rattle.model.proofs.TlvLaws.{tlvs}
 use Rattle.model.proofs.ReadingLaws.{reading-objects}

@@ -1,22 +1,17 @@
 -- Bytes fit as TLVs exactly when they are TLVs end to end.
-use mathlib.Core.Path.{_≡_, refl, sym, ap, _∙_}
-use Prim.Native.Nat.{ℕ, zero, suc, _+_, _*_, _/_, _%_, _^_, _≤_, _<_}
-use native.Mathlib.Nat.{mul-le-mul-right, mul-add-div-right, div-eq-of-lt, mod-one, mod-eq-of-lt, pow-succ', add-mul, mul-assoc, add-assoc, one-le-pow}
+use mathlib.Core.Path.{_≡_, refl}
+use Prim.Native.Nat.{ℕ, zero, suc, _≤_}
 use native.Mathlib.Omega.{arith}
 use mathlib.Core.Bool.{true, false≢true}
 use mathlib.Core.List.{List, [], _∷_, _++_}
 use mathlib.Core.Logic.{_↔_}
-use lib.Arith.{mod-mul}
-use lib.Dec.{leb, ltb}
+use lib.Dec.{leb}
 use lib.Seq.{length-take-le, drop-append-seam}
-use borrow.Author.Tests.{le-leb, leb-true, ltb-false}
+use borrow.Author.Tests.{le-leb, leb-true}
 use lib.ListN.{length, take, drop, length-append, take-append-drop}
-use Rattle.model.specs.Number.{numberFrom, number, bigEndian}
 use Rattle.model.specs.Reading.{tlvsUpTo, tlvsFit}
-use Rattle.model.specs.RoundTrip.{Tlv, joinTlvs, Bytes, RoundTrip}
-use Rattle.model.proofs.BoolLaws.{both, neither}
-use Rattle.model.proofs.ObjectLaws.{split-join, join-split}
-use Rattle.model.proofs.ReadingLaws.{reading-objects}
+use Rattle.model.specs.RoundTrip.{Tlv, joinTlvs}
+use Rattle.model.proofs.BoolLaws.{both}
 
 few-tlvs : (ts : List Tlv) → length ts ≤ length (joinTlvs ts)
 unfolding joinTlvs

@@ -20,12 +20,11 @@ use Rattle.model.specs.Update.{update, leafAnswer}
 use Rattle.model.specs.Choice.{currentOf, refusal, choose, bitsOf, nextHop, outgoing, parentOf, rankOf, answered, verdicts, choiceOf, sixteen, call}
 use Rattle.model.specs.Cut.{cut, cutContainer}
 use Rattle.model.specs.Untouched.{PassedOn, passedOn}
-use Rattle.model.specs.Unknown.{Each, nil, cons, CutBeside, KeepsPlaces, barredAt, holdsUnknown, SameAnswers, Demand3Holds}
+use Rattle.model.specs.Unknown.{Each, nil, cons, CutBeside, barredAt, holdsUnknown, SameAnswers, Demand3Holds}
 use Rattle.model.proofs.ListLaws.{map-at}
 use Rattle.model.proofs.BoolLaws.{neither}
-use Rattle.model.proofs.ReadingLaws.{container-objects}
 use Rattle.model.proofs.UpdateLaws.{nextHop-cut, leafAnswer-cut}
-use Rattle.model.proofs.PlaceLaws.{update-places}
+use Rattle.model.proofs.Places.{places-kept}
 use Rattle.model.proofs.CutVerdictLaws.{read-second, verdict-bars, verdict-same, resulting-same, unbarred-same}
 use Rattle.model.proofs.CallLaws.{call-is, no-leaf, named, barred-at}
 use Rattle.model.proofs.Refusals.{refusal-is}
@@ -127,19 +126,6 @@ module _ (own : Own) (cs cs′ : List Candidate) (lent lent′ out out′ : List
       → passedOn (call own cs lent out) ≡ container (update own (both-pass-on p .candidate .neighbour) (both-pass-on p .objects))
   passed-first p = let d = both-pass-on p in rw (first-is, d .choice, d .first) (take-append-seam _ _)
 
-  places : PassedOn (call own cs lent out) → KeepsPlaces cs lent (call own cs lent out)
-  places p =
-      let d = both-pass-on p in
-      record {
-        parent = d .candidate;
-        stands = rw (first-is, d .choice) (d .stands);
-        received = d .objects;
-        read = d .read;
-        next = update own (d .candidate .neighbour) (d .objects);
-        splits = rw (passed-first p) (container-objects (update own (d .candidate .neighbour) (d .objects)));
-        each = update-places own (d .candidate .neighbour) (d .objects);
-      }
-
   passes : anyOf (holdsUnknown lent) cs ≡ false → PassedOn (call own cs lent out)
       → PassedOn (call own cs′ lent′ out′) × (cutContainer (passedOn (call own cs lent out)) ≡ passedOn (call own cs′ lent′ out′))
   passes s p =
@@ -157,5 +143,5 @@ demand3 own cs cs′ lent lent′ out out′ beside taken room = record {
   unbarred = each-map (unbarred-same own lent lent′) cs cs′ beside;
   same = same-answers own cs cs′ lent lent′ out out′ beside taken room;
   passes = passes own cs cs′ lent lent′ out out′ beside taken room;
-  places = places own cs cs′ lent lent′ out out′ beside taken room;
+  places = places-kept own cs lent out;
 }

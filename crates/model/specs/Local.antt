@@ -1,4 +1,4 @@
--- Demand 2: a verdict depends only on own numbers, that candidate's, its container's bytes and, for bar 12, the length of the lent run.
+-- Document 01: unless the call is refused, a verdict depends only on own numbers, that candidate's, its container's bytes and, for bar 12, the length of the lent run.
 use mathlib.Core.Path.{_≡_}
 use mathlib.Core.Bool.{false}
 use Prim.Native.Nat.{ℕ}

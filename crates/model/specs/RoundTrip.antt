@@ -11,7 +11,7 @@ use Rattle.model.specs.Number.{number, bigEndian, anyOf}
 use Rattle.model.specs.Object.{Object, split, join, container}
 use Rattle.model.specs.Reading.{tlvsFit, wellFormed, reading}
 
--- a TLV, and TLVs end to end
+-- a TLV; its length byte is the value's length
 pub record Tlv : Type 0 where
   pub type : ℕ
   pub value : List ℕ

@@ -108,6 +108,10 @@ abbrev pub Demand3Holds : Type 0
 Demand3Holds = (own : Own) (cs cs′ : List Candidate) (lent lent′ out out′ : List ℕ) → Each (CutBeside lent lent′) cs cs′
     → call own cs lent out .answer .refusal ≡ 0 → length out′ ≡ length out → Demand3 own cs cs′ lent lent′ (call own cs lent out) (call own cs′ lent′ out′)
 
+-- places by themselves, whatever the other candidates' containers are
+abbrev pub PlacesKept : Type 0
+PlacesKept = (own : Own) (cs : List Candidate) (lent out : List ℕ) → PassedOn (call own cs lent out) → KeepsPlaces cs lent (call own cs lent out)
+
 -- well-formed containers always have such a second call
 abbrev pub SecondCallExists : Type 0
 SecondCallExists = (cs : List Candidate) (lent : List ℕ) → ((i : ℕ) (c : Candidate) → getElem? cs i ≡ some c → WellFormed lent c)

@@ -1,7 +1,7 @@
 -- Bars 11 to 14, on each side of each boundary.
 use Prim.Native.Nat.{ℕ}
 use mathlib.Core.List.{List, [], _∷_, _++_}
-use lib.ListN.{length, replicate}
+use lib.ListN.{replicate}
 use Rattle.model.specs.declared.Neighbour.{Neighbour}
 use Rattle.model.specs.Samples.{Example, _gives_, own0, ranked, neighbour0, nodeOf, lqlOf, empty, one, candidate, Calling, calling, single, hop}
 
