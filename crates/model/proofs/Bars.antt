@@ -2,9 +2,10 @@
 use mathlib.Core.Path.{_≡_, refl, sym, ap, _∙_}
 use Prim.Native.Nat.{ℕ, zero, suc}
 use native.Mathlib.Omega.{arith}
-use mathlib.Core.Bool.{true, Bool, false, false≢true}
+use mathlib.Core.Bool.{Bool, true, false, cond, false≢true, true≢false}
 use mathlib.Core.List.{List, [], _∷_, map}
 use mathlib.Core.Logic.{_↔_}
+use lib.Dec.{eqb}
 use Rattle.model.specs.declared.Rank.{Rank}
 use Rattle.model.specs.declared.Own.{Own}
 use Rattle.model.specs.declared.Summary.{Summary}
@@ -12,43 +13,88 @@ use Rattle.model.specs.declared.Neighbour.{Neighbour}
 use Rattle.model.specs.declared.Candidate.{Candidate}
 use Rattle.model.specs.declared.Verdict.{Verdict}
 use Rattle.model.specs.declared.Verdict.the-variants.{Unbarred, Barred}
-use Rattle.model.specs.Number.{anyOf, Case, firstCase, firstOf, indexOf}
+use Rattle.model.specs.Number.{anyOf, Case, _when_, firstCase, firstOf, indexOf}
 use Rattle.model.specs.Object.{Object, Standing, standings}
-use Rattle.model.specs.Reading.{noPlace, misframed, dataObjects, runsPast, malformed, repeated, misused, objectCases, objectBar, reading}
+use Rattle.model.specs.Reading.{noPlace, misframed, runsPast, malformed, repeated, misused, Reading, refused, wellFormed, reading}
 use Rattle.model.specs.Constraint.{summary, unknownMandatory, unmet, constraintCases, constraintBar}
 use Rattle.model.specs.Rank.{resulting, rankTooHigh, aboveLowest}
-use Rattle.model.specs.Verdict.{outOfRange, containerOf, outside, rankCases, rankBar, judgeRank, verdict, numberOf}
-use Rattle.model.specs.Exact.{NoneOf, FirstToHold, someHas, objectsIn, objectBars, constraintBars, barsTo14, barsTo17, barsTo19, BarAt, ConstraintAt, VerdictExact, VerdictsExact, BarExact}
+use Rattle.model.specs.Verdict.{outOfRange, containerOf, outside, rankCases, rankBar, judgeRank, judgeObjects, judgeReading, verdict, numberOf}
 use Rattle.model.proofs.BoolLaws.{neither}
 use Rattle.model.proofs.NumberLaws.{none-both, none-parts, exact, exact-none, isGiven, given-case, given-none, firstOf-all, given-firstOf, first-with}
-use Rattle.model.proofs.StageLaws.{stage-11, stage-12, stage-13, stage-14, past-14, afterConstraints, afterObjects, stagesOn, reading-stage, object-barred, constraint-barred, rank-barred, stageOf, Numbers, nothing, two-cases, three-cases, casesOf, stage-number, nothing}
+use Rattle.model.specs.Conditions.{someHas, objectsIn, objectBars, constraintBars, barsTo17, barsTo19}
+use Rattle.model.specs.Exact.{NoneOf, FirstToHold, BarAt, ConstraintAt, ReadingAt, VerdictExact, VerdictsExact, BarExact}
+use Rattle.model.proofs.Readings.{Numbers, nothing, one, two, three, two-cases, ReadView, is13, is14, is15, is16, is17, whole, read-view, at-13, at-14, reading-exact}
 
--- ---- bars at an object
+-- ---- a verdict as a chain of stages
 
--- each of 15, 16 and 17 at an object, and none of them
-pub object-15 : (s : Standing) → (objectBar s ≡ 15) ↔ FirstToHold [] (malformed s)
-unfolding objectBar
-object-15 s = exact (objectCases s) 0 refl
+-- past bars 11 to 17, with the numbers of 18 and 19 and of 20 and 21
+abbrev afterConstraints : Own → Neighbour → (bar place rankNumber : ℕ) → Verdict
+afterConstraints own c zero p q = judgeRank own c q
+afterConstraints own c (suc n) p q = Barred (suc n) p
 
-pub object-16 : (s : Standing) → (objectBar s ≡ 16) ↔ FirstToHold (malformed s ∷ []) (repeated s)
-unfolding objectBar
-object-16 s = exact (objectCases s) 1 refl
+-- bars 11 and 12, and what comes after them
+abbrev bars11and12 : (b11 b12 : Bool) → (rest : Verdict) → Verdict
+bars11and12 a b rest = cond a (Barred 11 noPlace) (cond b (Barred 12 noPlace) rest)
 
-pub object-17 : (s : Standing) → (objectBar s ≡ 17) ↔ FirstToHold (malformed s ∷ repeated s ∷ []) (misused s)
-unfolding objectBar
-object-17 s = exact (objectCases s) 2 refl
+stage-11 : (a b : Bool) (rest : Verdict) → FirstToHold [] a → bars11and12 a b rest ≡ Barred 11 noPlace
+stage-11 true b rest f = refl
+stage-11 false b rest f = absurd (false≢true (f .1))
 
-pub object-none : (s : Standing) → (objectBar s ≡ 0) ↔ (anyOf (λ t. t s) objectBars ≡ false)
-unfolding objectBar
-object-none s = exact-none (objectCases s) refl
+stage-12 : (a b : Bool) (rest : Verdict) → FirstToHold (a ∷ []) b → bars11and12 a b rest ≡ Barred 12 noPlace
+stage-12 true b rest f = absurd (true≢false (f .0))
+stage-12 false true rest f = refl
+stage-12 false false rest f = absurd (false≢true (f .1))
 
-pub object-given : (s : Standing) → isGiven (objectBar s) ≡ anyOf (λ t. t s) objectBars
-unfolding objectBar
-object-given s = given-case (objectCases s) refl
+past-12 : (a b : Bool) (rest : Verdict) → NoneOf (a ∷ b ∷ []) → bars11and12 a b rest ≡ rest
+past-12 true b rest f = absurd (true≢false f)
+past-12 false true rest f = absurd (true≢false f)
+past-12 false false rest f = refl
 
-pub object-numbers : (s : Standing) → Numbers 15 16 17 (objectBar s)
-unfolding objectBar
-object-numbers s = three-cases 15 16 17 (malformed s) (repeated s) (misused s)
+abbrev isRefused : Reading → Bool
+isRefused (refused n p) = true
+isRefused (wellFormed os) = false
+
+module _ (own : Own) (c : Neighbour) where
+  constraints-stage : (k j : ℕ) → judgeObjects own c k j ≡ afterConstraints own c k j (rankBar own c)
+  constraints-stage zero j = refl
+  constraints-stage (suc k) j = refl
+
+  constraint-barred : (k j q n p : ℕ) → isGiven k ≡ true → afterConstraints own c k j q ≡ Barred n p → (k ≡ n) × (j ≡ p)
+  constraint-barred zero j q n p g e = absurd (false≢true g)
+  constraint-barred (suc k) j q n p g e = (cc, cc)
+
+  rank-barred : (q n p : ℕ) → isGiven q ≡ true → judgeRank own c q ≡ Barred n p → q ≡ n
+  rank-barred zero n p g e = absurd (false≢true g)
+  rank-barred (suc q) n p g e = cc
+
+  reading-barred : (x : Reading) (n p : ℕ) → isRefused x ≡ true → judgeReading own c x ≡ Barred n p → x ≡ refused n p
+  reading-barred (refused m i) n p g e = cc
+  reading-barred (wellFormed os) n p g e = absurd (false≢true g)
+
+-- ---- which stage a number belongs to
+
+-- 13 for 13 to 17, 18 for 18 and 19, 20 for 20 and 21; any other number itself
+abbrev stageOf : ℕ → ℕ
+stageOf n =
+    cond (anyOf (eqb n) (13 ∷ 14 ∷ 15 ∷ 16 ∷ 17 ∷ [])) 13 (cond (anyOf (eqb n) (18 ∷ 19 ∷ [])) 18 (cond (anyOf (eqb n) (20 ∷ 21 ∷ [])) 20 n))
+
+abbrev casesOf : (a b r k q : Bool) → List Case
+casesOf a b r k q = 11 when a ∷ 12 when b ∷ 13 when r ∷ 18 when k ∷ 20 when q ∷ 10 when true ∷ []
+
+-- the number of 18 or 19 in what was read
+abbrev constraintNumber : Neighbour → Reading → ℕ
+constraintNumber c (refused n p) = 0
+constraintNumber c (wellFormed os) = firstOf (constraintBar c (summary os)) os
+
+rest-number : (own : Own) (c : Neighbour) (k j q : ℕ) → Numbers 18 19 19 k → Numbers 20 21 21 q
+    → stageOf (numberOf (afterConstraints own c k j q)) ≡ firstCase (casesOf false false false (isGiven k) (isGiven q))
+rest-number own c k j q one z = refl
+rest-number own c k j q two z = refl
+rest-number own c k j q three z = refl
+rest-number own c k j q nothing one = refl
+rest-number own c k j q nothing two = refl
+rest-number own c k j q nothing three = refl
+rest-number own c k j q nothing nothing = refl
 
 -- 18 and 19
 module _ (c : Neighbour) (s : Summary) where
@@ -90,55 +136,67 @@ module _ (own : Own) (c : Neighbour) where
   unfolding rankBar
   rank-numbers = two-cases 20 21 (rankTooHigh own c) (aboveLowest own c)
 
+-- the number of a verdict, by the stage that decided it
+reading-number : (own : Own) (c : Neighbour) (x : Reading) → ReadView x
+    → stageOf (numberOf (judgeReading own c x)) ≡ firstCase (casesOf false false (isRefused x) (isGiven (constraintNumber c x)) (isGiven (rankBar own c)))
+reading-number own c x (is13 p) = refl
+reading-number own c x (is14 p) = refl
+reading-number own c x (is15 p) = refl
+reading-number own c x (is16 p) = refl
+reading-number own c x (is17 p) = refl
+reading-number own c x (whole os) =
+    rw (constraints-stage own c (firstOf (constraintBar c (summary os)) os) (indexOf (constraintBar c (summary os)) os))
+    (rest-number own c (firstOf (constraintBar c (summary os)) os) _ (rankBar own c) (firstOf-all (Numbers 18 19 19) (constraintBar c (summary os)) nothing (constraint-numbers c (summary os)) os) (rank-numbers own c))
+
+stage-number : (own : Own) (c : Neighbour) (a b : Bool) (x : Reading) → ReadView x
+    → stageOf (numberOf (bars11and12 a b (judgeReading own c x))) ≡ firstCase (casesOf a b (isRefused x) (isGiven (constraintNumber c x)) (isGiven (rankBar own c)))
+stage-number own c true b x v = refl
+stage-number own c false true x v = refl
+stage-number own c false false x v = reading-number own c x v
+
 -- ---- bars
 
 module _ (own : Own) (lent : List ℕ) (c : Candidate) where
   abbrev n : Neighbour
   n = c .neighbour
 
+  abbrev bs : List ℕ
+  bs = containerOf lent c
+
   abbrev os : List Object
-  os = objectsIn (containerOf lent c)
+  os = objectsIn bs
 
   abbrev sum : Summary
   sum = summary os
 
-  verdict-stages : verdict own lent c ≡ stagesOn own n (outOfRange n) (outside lent c) (misframed (containerOf lent c)) (dataObjects (containerOf lent c))
-  unfolding verdict reading
-  verdict-stages = reading-stage own n (outOfRange n) (outside lent c) (misframed (containerOf lent c)) (dataObjects (containerOf lent c))
-
-  objects-given : isGiven (firstOf objectBar (standings [] os)) ≡ someHas objectBars (standings [] os)
-  objects-given = given-firstOf objectBar (λ s. anyOf (λ t. t s) objectBars) object-given (standings [] os)
-
-  constraints-given : isGiven (firstOf (constraintBar n sum) os) ≡ someHas (constraintBars n sum) os
-  constraints-given = given-firstOf (constraintBar n sum) (λ o. anyOf (λ t. t o) (constraintBars n sum)) (constraint-given n sum) os
+  verdict-stages : verdict own lent c ≡ bars11and12 (outOfRange n) (outside lent c) (judgeReading own n (reading bs))
+  unfolding verdict
+  verdict-stages = refl
 
   abbrev cases : List Case
-  cases =
-      casesOf (outOfRange n) (outside lent c) (misframed (containerOf lent c)) (runsPast (containerOf lent c)) (someHas objectBars (standings [] os)) (someHas (constraintBars n sum) os) (isGiven (rankBar own n))
+  cases = casesOf (outOfRange n) (outside lent c) (isRefused (reading bs)) (isGiven (constraintNumber n (reading bs))) (isGiven (rankBar own n))
 
   decided : stageOf (numberOf (verdict own lent c)) ≡ firstCase cases
-  decided =
-      ap (λ v. stageOf (numberOf v)) verdict-stages
-      ∙ stage-number own n (outOfRange n) (outside lent c) (misframed (containerOf lent c)) (runsPast (containerOf lent c)) _ _ _ _ _ (firstOf-all (Numbers 15 16 17) objectBar nothing object-numbers (standings [] os)) (firstOf-all (Numbers 18 19 19) (constraintBar n sum) nothing (constraint-numbers n sum) os) (rank-numbers own n)
-      ∙ rw (objects-given, constraints-given)
+  decided = ap (λ v. stageOf (numberOf v)) verdict-stages ∙ stage-number own n (outOfRange n) (outside lent c) (reading bs) (read-view bs)
 
   -- a verdict's number gives the case that decided it
   by-case : (v : Verdict) (g : ℕ) → stageOf (numberOf v) ≡ g → verdict own lent c ≡ v → firstCase cases ≡ g
   by-case v g h e = sym decided ∙ ap (λ w. stageOf (numberOf w)) e ∙ h
 
-  -- what is left of the verdict past bar 14, past 17 and past 19
-  abbrev rest : Verdict
-  rest =
-      afterObjects own n (firstOf objectBar (standings [] os)) (indexOf objectBar (standings [] os)) (firstOf (constraintBar n sum) os) (indexOf (constraintBar n sum) os) (rankBar own n)
+  -- what is left of the verdict past bar 12, past 17 and past 19
+  past12 : NoneOf (outOfRange n ∷ outside lent c ∷ []) → verdict own lent c ≡ judgeReading own n (reading bs)
+  past12 h = verdict-stages ∙ past-12 (outOfRange n) (outside lent c) (judgeReading own n (reading bs)) h
 
-  past14 : NoneOf (barsTo14 lent c) → verdict own lent c ≡ rest
-  past14 h = verdict-stages ∙ past-14 (outOfRange n) (outside lent c) (misframed (containerOf lent c)) (runsPast (containerOf lent c)) rest h
+  abbrev read17 : List Bool
+  read17 = misframed bs ∷ runsPast bs ∷ someHas objectBars (standings [] os) ∷ []
 
   past17 : NoneOf (barsTo17 lent c) → verdict own lent c ≡ afterConstraints own n (firstOf (constraintBar n sum) os) (indexOf (constraintBar n sum) os) (rankBar own n)
   past17 h =
-      let (p, q) = none-parts (barsTo14 lent c) (someHas objectBars (standings [] os) ∷ []) h in
-      let z = given-none (firstOf objectBar (standings [] os)) (objects-given ∙ neither (someHas objectBars (standings [] os)) false q .0) in
-      past14 p ∙ rw z
+      let (p, q) = none-parts (outOfRange n ∷ outside lent c ∷ []) read17 h in
+      past12 p ∙ rw (reading-exact bs .well-formed os .1 (q, refl)) (constraints-stage own n (firstOf (constraintBar n sum) os) (indexOf (constraintBar n sum) os))
+
+  constraints-given : isGiven (firstOf (constraintBar n sum) os) ≡ someHas (constraintBars n sum) os
+  constraints-given = given-firstOf (constraintBar n sum) (λ o. anyOf (λ t. t o) (constraintBars n sum)) (constraint-given n sum) os
 
   past19 : NoneOf (barsTo19 lent c) → verdict own lent c ≡ judgeRank own n (rankBar own n)
   past19 h =
@@ -146,16 +204,47 @@ module _ (own : Own) (lent : List ℕ) (c : Candidate) where
       let z = given-none (firstOf (constraintBar n sum) os) (constraints-given ∙ neither (someHas (constraintBars n sum) os) false q .0) in
       past17 p ∙ rw z
 
-  -- bars 15 to 17 from their number and property
-  bar-at : (m : ℕ) (lower : List (Standing → Bool)) (bar : Standing → Bool) → stageOf (suc m) ≡ 15
-      → ((s : Standing) → (objectBar s ≡ suc m) ↔ FirstToHold (map (λ t. t s) lower) (bar s))
-      → (place : ℕ) → (verdict own lent c ≡ Barred (suc m) place) ↔ BarAt lent c lower bar place
-  bar-at m lower bar g has place =
-      let found = first-with objectBar (standings [] os) m objectBars lower bar has object-none place in (
-        λ e. let f = exact cases 4 refl .0 (by-case (Barred (suc m) place) 15 g e) in
-            (f .0, found .0 (object-barred own n _ _ _ _ _ (suc m) place (objects-given ∙ f .1) (sym (past14 (f .0)) ∙ e))),
-        λ w. let (x, y) = found .1 (w .1) in past14 (w .0) ∙ rw (x, y),
-      )
+  -- a container that is not refused is read as its objects
+  read-objects : NoneOf (outOfRange n ∷ outside lent c ∷ isRefused (reading bs) ∷ []) → NoneOf (barsTo17 lent c) × (reading bs ≡ wellFormed os)
+  read-objects h =
+      let (p, q) = none-parts (outOfRange n ∷ outside lent c ∷ []) (isRefused (reading bs) ∷ []) h in
+      go (reading bs) refl p (neither (isRefused (reading bs)) false q .0)
+    where
+      go : (x : Reading) → reading bs ≡ x → NoneOf (outOfRange n ∷ outside lent c ∷ []) → isRefused x ≡ false → NoneOf (barsTo17 lent c) × (reading bs ≡ wellFormed os)
+      go (refused m i) e p g = absurd (true≢false g)
+      go (wellFormed ts) e p g =
+          let (f, s) = reading-exact bs .well-formed ts .0 e in
+          (none-both (outOfRange n ∷ outside lent c ∷ []) read17 p f, e ∙ ap wellFormed (sym s))
+
+  -- bars 13 to 17 are those of the reading
+  read-bar : (m place : ℕ) → stageOf m ≡ 13 → (verdict own lent c ≡ Barred m place) ↔ (NoneOf (outOfRange n ∷ outside lent c ∷ []) × (reading bs ≡ refused m place))
+  read-bar m place g = (
+    λ e. let f = exact cases 2 refl .0 (by-case (Barred m place) 13 g e) in
+        (f .0, reading-barred own n (reading bs) m place (f .1) (sym (past12 (f .0)) ∙ e)),
+    λ w. past12 (w .0) ∙ rw (w .1),
+  )
+
+  -- bars 13 and 14, whatever the place
+  first-13 : (place : ℕ) → verdict own lent c ≡ Barred 13 place → FirstToHold (outOfRange n ∷ outside lent c ∷ []) (misframed bs)
+  first-13 place e = let (x, y) = read-bar 13 place refl .0 e in (x, at-13 bs place y .1)
+
+  first-14 : (place : ℕ) → verdict own lent c ≡ Barred 14 place → FirstToHold (outOfRange n ∷ outside lent c ∷ misframed bs ∷ []) (runsPast bs)
+  first-14 place e =
+      let (x, y) = read-bar 14 place refl .0 e in
+      let f = at-14 bs place y in
+      (none-both (outOfRange n ∷ outside lent c ∷ []) (misframed bs ∷ []) x (f .0), f .1)
+
+  -- 15 to 17, at an object
+  bar-at : (m : ℕ) (lower : List (Standing → Bool)) (bar : Standing → Bool) → stageOf m ≡ 13
+      → ((place : ℕ) → (reading bs ≡ refused m place) ↔ ReadingAt bs lower bar place)
+      → (place : ℕ) → (verdict own lent c ≡ Barred m place) ↔ BarAt lent c lower bar place
+  bar-at m lower bar g read place = (
+    λ e. let (x, y) = read-bar m place g .0 e in
+        let (f, w) = read place .0 y in
+        (none-both (outOfRange n ∷ outside lent c ∷ []) (misframed bs ∷ runsPast bs ∷ []) x f, w),
+    λ w. let (x, y) = none-parts (outOfRange n ∷ outside lent c ∷ []) (misframed bs ∷ runsPast bs ∷ []) (w .0) in
+        read-bar m place g .1 (x, read place .1 (y, w .1)),
+  )
 
   -- bars 18 and 19
   constraint-at : (m : ℕ) (lower : List (Object → Bool)) (bar : Object → Bool) → stageOf (suc m) ≡ 18
@@ -163,16 +252,33 @@ module _ (own : Own) (lent : List ℕ) (c : Candidate) where
       → (place : ℕ) → (verdict own lent c ≡ Barred (suc m) place) ↔ ConstraintAt lent c lower bar place
   constraint-at m lower bar g has place =
       let found = first-with (constraintBar n sum) os m (constraintBars n sum) lower bar has (constraint-none n sum) place in (
-        λ e. let f = exact cases 5 refl .0 (by-case (Barred (suc m) place) 18 g e) in
-            (f .0, found .0 (constraint-barred own n _ _ _ (suc m) place (constraints-given ∙ f .1) (sym (past17 (f .0)) ∙ e))),
+        λ e. let f = exact cases 3 refl .0 (by-case (Barred (suc m) place) 18 g e) in
+            let (x, y) = read-objects (f .0) in
+            (x, found .0 (constraint-barred own n _ _ _ (suc m) place (rw y at (f .1)) (sym (past17 x) ∙ e))),
         λ w. let (x, y) = found .1 (w .1) in past17 (w .0) ∙ rw (x, y),
       )
+
+  -- past 18 and 19: nothing of 11 to 19 holds
+  read-constraints : NoneOf (outOfRange n ∷ outside lent c ∷ isRefused (reading bs) ∷ isGiven (constraintNumber n (reading bs)) ∷ []) → NoneOf (barsTo19 lent c)
+  read-constraints h =
+      let (p, q) = none-parts (outOfRange n ∷ outside lent c ∷ isRefused (reading bs) ∷ []) (isGiven (constraintNumber n (reading bs)) ∷ []) h in
+      let (x, y) = read-objects p in
+      let k : isGiven (firstOf (constraintBar n sum) os) ≡ false = rw y at (neither (isGiven (constraintNumber n (reading bs))) false q .0) in
+      none-both (barsTo17 lent c) (someHas (constraintBars n sum) os ∷ []) x (rw (← constraints-given, k))
 
   -- the number of bar 20 or 21 that was given
   rank-given : (m place : ℕ) → stageOf m ≡ 20 → verdict own lent c ≡ Barred m place → NoneOf (barsTo19 lent c) × (rankBar own n ≡ m)
   rank-given m place g e =
-      let f = exact cases 6 refl .0 (by-case (Barred m place) 20 g e) in
-      (f .0, rank-barred own n (rankBar own n) m place (f .1) (sym (past19 (f .0)) ∙ e))
+      let f = exact cases 4 refl .0 (by-case (Barred m place) 20 g e) in
+      let x = read-constraints (f .0) in
+      (x, rank-barred own n (rankBar own n) m place (f .1) (sym (past19 x) ∙ e))
+
+  -- nothing bars
+  rank-free : firstCase cases ≡ 10 → NoneOf (barsTo19 lent c) × (rankBar own n ≡ 0)
+  rank-free e =
+      let f = exact cases 5 refl .0 e in
+      let (x, y) = none-parts (outOfRange n ∷ outside lent c ∷ isRefused (reading bs) ∷ isGiven (constraintNumber n (reading bs)) ∷ []) (isGiven (rankBar own n) ∷ []) (f .0) in
+      (read-constraints x, given-none (rankBar own n) (neither (isGiven (rankBar own n)) false y .0))
 
   unbarred-is : (q : ℕ) (r : Rank) → q ≡ 0 → judgeRank own n q ≡ Unbarred r → r ≡ record { 0 = resulting own n }
   unbarred-is zero r z e = cc
@@ -181,56 +287,55 @@ module _ (own : Own) (lent : List ℕ) (c : Candidate) where
   -- no bar has the number 10
   pub never-10 : (place : ℕ) → verdict own lent c ≡ Barred 10 place → ⊥
   never-10 place e =
-      let f = exact cases 7 refl .0 (by-case (Barred 10 place) 10 refl e) in
-      let (x, y) = none-parts (barsTo19 lent c) (isGiven (rankBar own n) ∷ []) (f .0) in
-      let z = given-none (rankBar own n) (neither (isGiven (rankBar own n)) false y .0) in
+      let (x, z) = rank-free (by-case (Barred 10 place) 10 refl e) in
       let q : judgeRank own n 0 ≡ Barred 10 place = sym (past19 x ∙ rw z) ∙ e in
       let w : _≡_ {A = ℕ} 0 1 = cc in
       omega arith
 
   pub verdict-exact : VerdictExact own lent c (verdict own lent c)
-  verdict-exact = record {
-    verdict-11 = (
-      λ e. exact cases 0 refl .0 (by-case (Barred 11 noPlace) 11 refl e),
-      λ f. verdict-stages ∙ stage-11 (outOfRange n) (outside lent c) (misframed (containerOf lent c)) (runsPast (containerOf lent c)) rest f,
-    );
-    verdict-12 = (
-      λ e. exact cases 1 refl .0 (by-case (Barred 12 noPlace) 12 refl e),
-      λ f. verdict-stages ∙ stage-12 (outOfRange n) (outside lent c) (misframed (containerOf lent c)) (runsPast (containerOf lent c)) rest f,
-    );
-    verdict-13 = (
-      λ e. exact cases 2 refl .0 (by-case (Barred 13 noPlace) 13 refl e),
-      λ f. verdict-stages ∙ stage-13 (outOfRange n) (outside lent c) (misframed (containerOf lent c)) (runsPast (containerOf lent c)) rest f,
-    );
-    verdict-14 = (
-      λ e. exact cases 3 refl .0 (by-case (Barred 14 noPlace) 14 refl e),
-      λ f. verdict-stages ∙ stage-14 (outOfRange n) (outside lent c) (misframed (containerOf lent c)) (runsPast (containerOf lent c)) rest f,
-    );
-    verdict-15 = bar-at 14 [] malformed refl object-15;
-    verdict-16 = bar-at 15 (malformed ∷ []) repeated refl object-16;
-    verdict-17 = bar-at 16 (malformed ∷ repeated ∷ []) misused refl object-17;
-    verdict-18 = constraint-at 17 [] unknownMandatory refl (constraint-18 n sum);
-    verdict-19 = constraint-at 18 (unknownMandatory ∷ []) (unmet n sum) refl (constraint-19 n sum);
-    verdict-20 = (
-      λ e. let (f, q) = rank-given 20 noPlace refl e in (f, rank-20 own n .0 q .1),
-      λ f. past19 (f .0) ∙ rw (rank-20 own n .1 (refl, f .1)),
-    );
-    verdict-21 = (
-      λ e. let (f, q) = rank-given 21 noPlace refl e in
-          let g = rank-21 own n .0 q in
-          (none-both (barsTo19 lent c) (rankTooHigh own n ∷ []) f (g .0), g .1),
-      λ f. let (x, y) = none-parts (barsTo19 lent c) (rankTooHigh own n ∷ []) (f .0) in
-          past19 x ∙ rw (rank-21 own n .1 (y, f .1)),
-    );
-    unbarred = λ r. (
-      λ e. let f = exact cases 7 refl .0 (by-case (Unbarred r) 10 refl e) in
-          let (x, y) = none-parts (barsTo19 lent c) (isGiven (rankBar own n) ∷ []) (f .0) in
-          let z = given-none (rankBar own n) (neither (isGiven (rankBar own n)) false y .0) in
-          (none-both (barsTo19 lent c) (rankTooHigh own n ∷ aboveLowest own n ∷ []) x (rank-none own n .0 z), unbarred-is (rankBar own n) r z (sym (past19 x) ∙ e)),
-      λ f. let (x, y) = none-parts (barsTo19 lent c) (rankTooHigh own n ∷ aboveLowest own n ∷ []) (f .0) in
-          past19 x ∙ rw (rank-none own n .1 y, f .1),
-    );
-  }
+  verdict-exact =
+      let r = reading-exact bs in
+      record {
+        verdict-11 = (
+          λ e. exact cases 0 refl .0 (by-case (Barred 11 noPlace) 11 refl e),
+          λ f. verdict-stages ∙ stage-11 (outOfRange n) (outside lent c) (judgeReading own n (reading bs)) f,
+        );
+        verdict-12 = (
+          λ e. exact cases 1 refl .0 (by-case (Barred 12 noPlace) 12 refl e),
+          λ f. verdict-stages ∙ stage-12 (outOfRange n) (outside lent c) (judgeReading own n (reading bs)) f,
+        );
+        verdict-13 = (
+          first-13 noPlace,
+          λ f. read-bar 13 noPlace refl .1 (f .0, r .reading-13 .1 (refl, f .1)),
+        );
+        verdict-14 = (
+          first-14 noPlace,
+          λ f. let (x, y) = none-parts (outOfRange n ∷ outside lent c ∷ []) (misframed bs ∷ []) (f .0) in
+              read-bar 14 noPlace refl .1 (x, r .reading-14 .1 (y, f .1)),
+        );
+        verdict-15 = bar-at 15 [] malformed refl (r .reading-15);
+        verdict-16 = bar-at 16 (malformed ∷ []) repeated refl (r .reading-16);
+        verdict-17 = bar-at 17 (malformed ∷ repeated ∷ []) misused refl (r .reading-17);
+        verdict-18 = constraint-at 17 [] unknownMandatory refl (constraint-18 n sum);
+        verdict-19 = constraint-at 18 (unknownMandatory ∷ []) (unmet n sum) refl (constraint-19 n sum);
+        verdict-20 = (
+          λ e. let (f, q) = rank-given 20 noPlace refl e in (f, rank-20 own n .0 q .1),
+          λ f. past19 (f .0) ∙ rw (rank-20 own n .1 (refl, f .1)),
+        );
+        verdict-21 = (
+          λ e. let (f, q) = rank-given 21 noPlace refl e in
+              let g = rank-21 own n .0 q in
+              (none-both (barsTo19 lent c) (rankTooHigh own n ∷ []) f (g .0), g .1),
+          λ f. let (x, y) = none-parts (barsTo19 lent c) (rankTooHigh own n ∷ []) (f .0) in
+              past19 x ∙ rw (rank-21 own n .1 (y, f .1)),
+        );
+        unbarred = λ t. (
+          λ e. let (x, z) = rank-free (by-case (Unbarred t) 10 refl e) in
+              (none-both (barsTo19 lent c) (rankTooHigh own n ∷ aboveLowest own n ∷ []) x (rank-none own n .0 z), unbarred-is (rankBar own n) t z (sym (past19 x) ∙ e)),
+          λ f. let (x, y) = none-parts (barsTo19 lent c) (rankTooHigh own n ∷ aboveLowest own n ∷ []) (f .0) in
+              past19 x ∙ rw (rank-none own n .1 y, f .1),
+        );
+      }
 
   -- ---- the number alone
 
@@ -256,7 +361,7 @@ module _ (own : Own) (lent : List ℕ) (c : Candidate) where
   without-place m g e =
       let (p, q) = barred-at m (λ z. let w : stageOf 10 ≡ 20 = rw z at g in omega arith) e in
       let (f, r) = rank-given m p g q in
-      past19 f ∙ rw r (given-rank m (ap isGiven (sym r) ∙ exact cases 6 refl .0 (by-number m 20 g e) .1))
+      past19 f ∙ rw r (given-rank m (ap isGiven (sym r) ∙ exact cases 4 refl .0 (by-number m 20 g e) .1))
     where
       given-rank : (k : ℕ) → isGiven k ≡ true → judgeRank own n k ≡ Barred k noPlace
       given-rank zero h = absurd (false≢true h)
@@ -272,8 +377,8 @@ module _ (own : Own) (lent : List ℕ) (c : Candidate) where
       record {
         bar-11 = (λ e. exact cases 0 refl .0 (by-number 11 11 refl e), λ f. ap numberOf (v .verdict-11 .1 f));
         bar-12 = (λ e. exact cases 1 refl .0 (by-number 12 12 refl e), λ f. ap numberOf (v .verdict-12 .1 f));
-        bar-13 = (λ e. exact cases 2 refl .0 (by-number 13 13 refl e), λ f. ap numberOf (v .verdict-13 .1 f));
-        bar-14 = (λ e. exact cases 3 refl .0 (by-number 14 14 refl e), λ f. ap numberOf (v .verdict-14 .1 f));
+        bar-13 = (λ e. let (p, q) = barred-at 13 (λ z. omega arith) e in first-13 p q, λ f. ap numberOf (v .verdict-13 .1 f));
+        bar-14 = (λ e. let (p, q) = barred-at 14 (λ z. omega arith) e in first-14 p q, λ f. ap numberOf (v .verdict-14 .1 f));
         bar-15 = at-some-place 15 _ (λ e. omega arith) (v .verdict-15);
         bar-16 = at-some-place 16 _ (λ e. omega arith) (v .verdict-16);
         bar-17 = at-some-place 17 _ (λ e. omega arith) (v .verdict-17);

@@ -2,7 +2,7 @@
 use mathlib.Core.Path.{_≡_, refl, sym, subst, _∙_}
 use Prim.Native.Nat.{ℕ, zero, suc, _+_, _*_, _/_, _%_, _^_, _≤_}
 use native.Mathlib.Omega.{arith}
-use mathlib.Core.Bool.{Bool, true, false, cond, _&&_, _||_}
+use mathlib.Core.Bool.{Bool, true, false, cond, _&&_, _||_, or-assoc}
 use mathlib.Core.List.{List, [], _∷_, _++_}
 use lib.ListN.{length, take, drop, take-append-drop, length-append}
 use lib.Dec.{ltb, eqb}
@@ -19,10 +19,11 @@ use Rattle.model.specs.Update.{localValue, valueOr0, combine, onTwo, cle
 use Rattle.model.specs.RoundTrip.{Bytes}
 use Rattle.model.specs.ReadBack.{PassesBytes}
 use Rattle.model.proofs.BoolLaws.{both, neither}
-use Rattle.model.proofs.VerdictLaws.{admitted, in-range}
+use Rattle.model.proofs.VerdictLaws.{admitted, nothing-bars, in-range}
 use Rattle.model.proofs.CallLaws.{unrefused}
 use Rattle.model.proofs.Selection.{selection}
-use Rattle.model.proofs.OutgoingLaws.{fits, leaf-is, passed-is}
+use Rattle.model.proofs.OutgoingLaws.{leaf-is, passed-is}
+use Rattle.model.proofs.LeafLaws.{fits}
 use Rattle.model.proofs.ReadingLaws.{reading-objects}
 
 -- ---- lists of bytes
@@ -32,11 +33,7 @@ byte b h = le-ltb 255 b h
 
 any-append : (f : ℕ → Bool) (xs ys : List ℕ) → anyOf f (xs ++ ys) ≡ anyOf f xs || anyOf f ys
 any-append f [] ys = refl
-any-append f (x ∷ xs) ys = rw (any-append f xs ys) (assoc (f x) (anyOf f xs) (anyOf f ys))
-  where
-    assoc : (a b c : Bool) → a || (b || c) ≡ a || b || c
-    assoc true b c = refl
-    assoc false b c = refl
+any-append f (x ∷ xs) ys = rw (any-append f xs ys) (sym (or-assoc (f x) (anyOf f xs) (anyOf f ys)))
 
 both-bytes : (xs ys : List ℕ) → Bytes xs → Bytes ys → Bytes (xs ++ ys)
 both-bytes xs ys p q = any-append (λ b. ltb 255 b) xs ys ∙ rw (p, q)
@@ -210,7 +207,7 @@ pub passes-bytes : PassesBytes
 passes-bytes own cs lent out h e p =
     let x = selection own cs lent out (p .unrefused) .parent (p .parent) in
     let n = x .candidate .neighbour in
-    let a = admitted own lent (x .candidate) (x .unbarred) in
+    let a = admitted own lent (x .candidate) (sym (nothing-bars own lent (x .candidate)) ∙ x .unbarred) in
     let r = reading-objects (containerOf lent (x .candidate)) (x .objects) (x .read) in
     let b : Bytes (container (x .objects)) = subst (λ bs. Bytes bs) (r .whole) (take-bytes (x .candidate .size) (drop (x .candidate .start) lent) (drop-bytes (x .candidate .start) lent h)) in
     let data′ = first-byte (length (join (x .objects))) (join (x .objects)) (first-byte 2 (length (join (x .objects)) ∷ join (x .objects)) b .1) .1 in

@@ -3,7 +3,7 @@ use mathlib.Core.Path.{_≡_, refl, sym, ap, _∙_}
 use Prim.Native.Nat.{ℕ, zero, suc, _+_, _*_, _/_, _%_, _^_, _≤_, _<_}
 use native.Mathlib.Nat.{add-zero, pow-succ'}
 use native.Mathlib.Omega.{arith}
-use mathlib.Core.Bool.{Bool, true, false, cond, _&&_, _||_, false≢true, true≢false}
+use mathlib.Core.Bool.{Bool, true, false, cond, _&&_, _||_, false≢true, true≢false, or-assoc}
 use mathlib.Core.List.{List, [], _∷_, map}
 use mathlib.Core.Logic.{_⊎_, inl, inr, ⊎-elim}
 use mathlib.Core.Option.{some, Option·none-ne-some}
@@ -166,10 +166,6 @@ module _ (q : Quantity) where
   verdict-parent (Parent o t) p (Unbarred r) = preferred-parent q p r (Parent o t)
   verdict-parent Nobody p (Barred n i) = refl
   verdict-parent (Parent o t) p (Barred n i) = refl
-
-  or-assoc : (a b c : Bool) → a || b || c ≡ a || (b || c)
-  or-assoc true b c = refl
-  or-assoc false b c = refl
 
   from-parent : (vs : List Verdict) (b : Choice) (p : ℕ) → isParent (chooseFrom q b p vs) ≡ isParent b || anyOf isUnbarred vs
   unfolding chooseFrom

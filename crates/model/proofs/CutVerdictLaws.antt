@@ -16,7 +16,10 @@ use Rattle.model.specs.Constraint.{summary, unknownMandatory, constraint
 use Rattle.model.specs.Rank.{resulting}
 use Rattle.model.specs.Verdict.{outOfRange, containerOf, rankBar, judgeRank, judgeObjects, judgeReading, verdict, isUnbarred}
 use Rattle.model.specs.Cut.{cut}
-use Rattle.model.specs.Unknown.{CutBeside, holdsUnknown}
+use Rattle.model.specs.Unknown.{CutBeside, isUnknownMandatory, holdsUnknown}
+use Rattle.model.specs.Conditions.{objectsIn}
+use Rattle.model.proofs.ListLaws.{any-same}
+use Rattle.model.proofs.TypeLaws.{unknown-mandatory}
 use Rattle.model.proofs.BoolLaws.{neither, or-right}
 use Rattle.model.proofs.VerdictLaws.{admitted}
 use Rattle.model.proofs.NumberLaws.{isGiven}
@@ -51,7 +54,8 @@ judge-same own c os e = rw (constraintBars-same c os e) (judge-placeless own c (
 
 module _ (own : Own) (lent lent′ : List ℕ) (c c′ : Candidate) (x : CutBeside lent lent′ c c′) where
   pub holds-unknown : holdsUnknown lent c ≡ anyOf unknownMandatory (x .whole .objects)
-  holds-unknown = rw (reading-objects (containerOf lent c) (x .whole .objects) (x .whole .read) .objects)
+  holds-unknown =
+      any-same isUnknownMandatory unknownMandatory unknown-mandatory (objectsIn (containerOf lent c)) ∙ rw (reading-objects (containerOf lent c) (x .whole .objects) (x .whole .read) .objects)
 
   pub read-second : reading (containerOf lent′ c′) ≡ wellFormed (cut (x .whole .objects))
   read-second = rw (x .cut) (reading-cut (containerOf lent c) (x .whole .objects) (x .whole .read))

@@ -1,6 +1,8 @@
 -- Every leaf answer is given exactly when document 01 says, for a parent with given objects.
 use mathlib.Core.Path.{_≡_, refl, sym, _∙_}
-use Prim.Native.Nat.{ℕ, zero, suc}
+use Prim.Native.Nat.{ℕ, zero, suc, _≤_}
+use lib.ListN.{length}
+use borrow.Author.Tests.{ltb-false}
 use native.Mathlib.Omega.{arith}
 use mathlib.Core.Bool.{Bool, true, false, _||_, false≢true, true≢false}
 use mathlib.Core.List.{List, [], _∷_, map}
@@ -8,9 +10,10 @@ use mathlib.Core.Logic.{_↔_}
 use Rattle.model.specs.declared.Own.{Own}
 use Rattle.model.specs.declared.Neighbour.{Neighbour}
 use Rattle.model.specs.Number.{anyOf, _when_, firstCase, first, firstOf, indexOf}
-use Rattle.model.specs.Object.{Object}
-use Rattle.model.specs.Update.{unknownAggregated, notAllowed, noValue, fullCount, leafCases, objectLeaf, tooLong, leafAnswer}
-use Rattle.model.specs.Exact.{FirstToHold, someHas, leafTests, LeafAt, LeafExact}
+use Rattle.model.specs.Object.{Object, join}
+use Rattle.model.specs.Update.{unknownAggregated, notAllowed, noValue, fullCount, leafCases, objectLeaf, tooLong, leafAnswer, update}
+use Rattle.model.specs.Conditions.{someHas}
+use Rattle.model.specs.Exact.{FirstToHold, leafTests, LeafAt, LeafExact}
 use Rattle.model.proofs.BoolLaws.{neither}
 use Rattle.model.proofs.NumberLaws.{exact, exact-none, isGiven, given-case, firstOf-all, given-firstOf, first-with}
 
@@ -101,3 +104,10 @@ module _ (own : Own) (c : Neighbour) where
         λ f. none-35 (firstOf (objectLeaf own c) os) (tooLong own c os) .1 (rw leaves-given f),
       );
     }
+
+-- what is sent fits a container
+pub fits : (own : Own) (c : Neighbour) (os : List Object) → leafAnswer own c os ≡ 0 → length (join (update own c os)) ≤ 255
+unfolding tooLong
+fits own c os e =
+    let (a, b) = neither (someHas (leafTests own c) os) _ (leaf-exact own c os .no-leaf .0 e) in
+    ltb-false 255 (length (join (update own c os))) (neither (tooLong own c os) false b .0)

@@ -4,9 +4,8 @@ pub mod ListLaws
 pub mod ObjectLaws
 pub mod ChoiceLaws
 pub mod Refusals
-pub mod StageLaws
-pub mod Bars
 pub mod Readings
+pub mod Bars
 pub mod LeafLaws
 pub mod VerdictLaws
 pub mod CallLaws

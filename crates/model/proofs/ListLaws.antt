@@ -43,6 +43,10 @@ pub any-map : {A B : Type 0} (p : B → Bool) (f : A → B) (xs : List A) → an
 any-map p f [] = refl
 any-map p f (x ∷ xs) = rw (any-map p f xs)
 
+pub any-same : {A : Type 0} (p q : A → Bool) → ((x : A) → p x ≡ q x) → (xs : List A) → anyOf p xs ≡ anyOf q xs
+any-same p q h [] = refl
+any-same p q h (x ∷ xs) = rw (h x, any-same p q h xs)
+
 -- filled up to a length
 pub length-filled : {A : Type 0} (n : ℕ) (xs : List A) (d : A) → length xs ≤ n → length (xs ++ replicate (n - length xs) d) ≡ n
 length-filled n xs d h = length-append xs (replicate (n - length xs) d) ∙ rw (length-replicate (n - length xs) d) (omega arith)

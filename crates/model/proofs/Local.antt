@@ -1,8 +1,10 @@
 -- A verdict depends on nothing but the candidate, its bytes and own numbers.
 use mathlib.Core.Path.{_≡_, refl, sym, ap, _∙_}
 use mathlib.Core.Bool.{Bool, true, false}
-use Prim.Native.Nat.{ℕ}
+use Prim.Native.Nat.{ℕ, _+_}
 use mathlib.Core.List.{List}
+use lib.ListN.{length}
+use borrow.Author.Tests.{ltb-false}
 use Rattle.model.specs.declared.Own.{Own}
 use Rattle.model.specs.declared.Candidate.{Candidate}
 use Rattle.model.specs.Verdict.{outside, verdict, numberOf, placeOf}
@@ -15,7 +17,7 @@ alike-verdict own lent lent′ c c′ a = go (outside lent c) refl
   where
     go : (b : Bool) → outside lent c ≡ b → verdict own lent c ≡ verdict own lent′ c′
     go true e = let e′ : outside lent′ c′ ≡ true = sym (a .inside) ∙ e in rw (a .numbers, e, e′)
-    go false e = let e′ : outside lent′ c′ ≡ false = sym (a .inside) ∙ e in rw (a .numbers, e, e′, a .bytes e)
+    go false e = let e′ : outside lent′ c′ ≡ false = sym (a .inside) ∙ e in rw (a .numbers, e, e′, a .bytes (ltb-false (length lent) (c .start + c .size) e))
 
 pub local : Local
 local own cs cs′ lent lent′ out out′ taken taken′ i i′ c c′ s s′ a =

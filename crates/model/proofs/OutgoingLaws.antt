@@ -1,29 +1,23 @@
 -- When a container is sent on, and which.
 use mathlib.Core.Path.{_≡_, refl, sym, _∙_}
-use Prim.Native.Nat.{ℕ, zero, suc, _≤_}
+use Prim.Native.Nat.{ℕ, zero, suc}
 use native.Mathlib.Omega.{arith}
-use mathlib.Core.Bool.{false}
 use mathlib.Core.List.{List}
 use mathlib.Core.Option.{some}
-use lib.ListN.{length, getElem?}
+use lib.ListN.{getElem?}
 use lib.Seq.{take-append-seam}
-use borrow.Author.Tests.{ltb-false}
 use Rattle.model.specs.declared.Rank.{Rank}
 use Rattle.model.specs.declared.Own.{Own}
-use Rattle.model.specs.declared.Neighbour.{Neighbour}
 use Rattle.model.specs.declared.Candidate.{Candidate}
 use Rattle.model.specs.declared.Choice.{Choice}
 use Rattle.model.specs.declared.Choice.the-variants.{Nobody, Parent}
-use Rattle.model.specs.Object.{Object, join, container}
+use Rattle.model.specs.Object.{Object, container}
 use Rattle.model.specs.Reading.{wellFormed, reading}
 use Rattle.model.specs.Verdict.{containerOf}
-use Rattle.model.specs.Update.{update, tooLong, leafAnswer}
+use Rattle.model.specs.Update.{update, leafAnswer}
 use Rattle.model.specs.Choice.{Outgoing, noContainer, nextHop, unlessLeaf, outgoing, noParent, leafOf, choiceOf, call}
 use Rattle.model.specs.Selection.{PreferredParent}
-use Rattle.model.specs.Exact.{someHas, leafTests}
 use Rattle.model.specs.Untouched.{passedOn}
-use Rattle.model.proofs.BoolLaws.{neither}
-use Rattle.model.proofs.LeafLaws.{leaf-exact}
 use Rattle.model.proofs.ListLaws.{at-below}
 use Rattle.model.proofs.CallLaws.{call-is, unrefused}
 use Rattle.model.proofs.Selection.{parented}
@@ -51,13 +45,6 @@ sending own cs lent out taken Nobody e = nobody refl
 sending own cs lent out taken (Parent p r) e =
     let x = parented own cs lent out taken p r e (noContainer 0) in
     sending-parent own cs lent p r (x .candidate) (x .objects) (x .stands) (x .read)
-
--- what is sent fits a container
-pub fits : (own : Own) (c : Neighbour) (os : List Object) → leafAnswer own c os ≡ 0 → length (join (update own c os)) ≤ 255
-unfolding tooLong
-fits own c os e =
-    let (a, b) = neither (someHas (leafTests own c) os) _ (leaf-exact own c os .no-leaf .0 e) in
-    ltb-false 255 (length (join (update own c os))) (neither (tooLong own c os) false b .0)
 
 -- the leaf number of a parent with these objects
 leaf-of : (own : Own) (cs : List Candidate) (lent : List ℕ) (p : ℕ) (r : Rank) (c : Candidate) (os : List Object) → getElem? cs p ≡ some c

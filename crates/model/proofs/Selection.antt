@@ -21,11 +21,12 @@ use Rattle.model.specs.Reading.{noPlace}
 use Rattle.model.specs.Rank.{infinite, resulting}
 use Rattle.model.specs.Verdict.{verdict, numberOf, placeOf, isUnbarred}
 use Rattle.model.specs.Choice.{currentOf, notCurrent, criteria, precedes, unbarredBit, Outgoing, outgoing, noParent, parentOf, rankOf, leafOf, sizeOf, sixteen, answered, verdicts, choiceOf, call, refusal}
-use Rattle.model.specs.Selection.{hasParent, barredByNothing, occurrences, PreferredParent, Selection, SelectionHolds}
-use Rattle.model.proofs.ListLaws.{at-below, at-map, map-at, getD-at, getD-past, any-map, length-filled}
+use Rattle.model.specs.Conditions.{barredByNothing}
+use Rattle.model.specs.Selection.{hasParent, occurrences, PreferredParent, Selection, SelectionHolds}
+use Rattle.model.proofs.ListLaws.{at-below, at-map, map-at, getD-at, getD-past, any-map, any-same, length-filled}
 use Rattle.model.proofs.ChoiceLaws.{not-preceding, isParent, Preferred, choose-preferred, choose-unbarred, choose-parent, bit-at, bits-below, unbarredCount, ones-bits}
 use Rattle.model.proofs.CallLaws.{call-is, unrefused}
-use Rattle.model.proofs.VerdictLaws.{admitted, ten, finite, rises}
+use Rattle.model.proofs.VerdictLaws.{nothing-bars, admitted, ten, finite, rises}
 
 -- ---- the criteria
 
@@ -108,19 +109,19 @@ module _ (own : Own) (cs : List Candidate) (lent out : List ℕ) (taken : call o
 
   -- what is unbarred at a position, as the choice sees it
   unbarred-at : (i : ℕ) (d : Candidate) → getElem? cs i ≡ some d → barredByNothing own lent d ≡ true → getElem? vs i ≡ some (Unbarred (record { 0 = resulting own (d .neighbour) }))
-  unbarred-at i d s f = at-map (verdict own lent) cs i d s ∙ ap some (admitted own lent d f .rank)
+  unbarred-at i d s f = at-map (verdict own lent) cs i d s ∙ ap some (admitted own lent d (sym (nothing-bars own lent d) ∙ f) .rank)
 
   pub parented : (p : ℕ) (r : Rank) → choiceOf own cs lent ≡ Parent p r → (o : Outgoing) → PreferredParent own cs lent (answered vs (Parent p r) o out .answer)
   parented p r e o =
       let (c, s, v) = candidate-at p r (choose-unbarred (currentOf own) vs p r e) in
-      let f : barredByNothing own lent c ≡ true = rw v in
-      let a = admitted own lent c f in
+      let u : isUnbarred (verdict own lent c) ≡ true = rw v in
+      let a = admitted own lent c u in
       let k : Unbarred r ≡ Unbarred (record { 0 = resulting own (c .neighbour) }) = sym v ∙ a .rank in
       let g : r .0 ≡ resulting own (c .neighbour) = unbarred-rank r (record { 0 = resulting own (c .neighbour) }) k in
       record {
         candidate = c;
         stands = s;
-        unbarred = f;
+        unbarred = nothing-bars own lent c ∙ u;
         objects = a .objects;
         read = a .read;
         rank = g;
@@ -155,13 +156,14 @@ module _ (own : Own) (cs : List Candidate) (lent out : List ℕ) (taken : call o
   by-choice : (ch : Choice) → choiceOf own cs lent ≡ ch → Selection own cs lent (answered vs ch (outgoing own cs lent ch) out .answer)
   unfolding outgoing
   by-choice ch e = record {
-    exists = has-parent ch e ∙ rw (← e) (choose-parent (currentOf own) vs) ∙ any-map isUnbarred (verdict own lent) cs;
+    exists = has-parent ch e ∙ rw (← e) (choose-parent (currentOf own) vs) ∙ any-map isUnbarred (verdict own lent) cs
+        ∙ any-same (λ c. isUnbarred (verdict own lent c)) (barredByNothing own lent) (λ c. sym (nothing-bars own lent c)) cs;
     parent = go ch e;
     nobody = none ch e;
     verdict-at = λ i c s. (reported numberOf 0 i c s, reported placeOf noPlace i c s);
     verdict-past = λ i h. (past numberOf 0 i h, past placeOf noPlace i h);
     sixteen = (filled numberOf 0, filled placeOf noPlace);
-    bit-at = λ i c s. bit-at vs i (verdict own lent c) (at-map (verdict own lent) cs i c s);
+    bit-at = λ i c s. bit-at vs i (verdict own lent c) (at-map (verdict own lent) cs i c s) ∙ sym (nothing-bars own lent c);
     bit-past = rw (← length-map cs (verdict own lent)) (bits-below vs);
     count-bits = refl;
     count-verdicts = ones-bits vs ∙ tens own lent cs ∙ sym (occurrences-append 10 (map numberOf vs) (replicate (16 - length (map numberOf vs)) 0) ∙ rw occurrences-zeros (omega arith));

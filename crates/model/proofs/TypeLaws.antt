@@ -1,14 +1,17 @@
 -- Types by number: which are known, and which metrics bar 17 refuses.
 use mathlib.Core.Path.{_≡_, refl, sym, _∙_}
-use Prim.Native.Nat.{ℕ, _/_, _%_, _≤_, _<_}
+use Prim.Native.Nat.{zero, suc, ℕ, _/_, _%_, _≤_, _<_}
 use native.Mathlib.Omega.{arith}
-use mathlib.Core.Bool.{Bool, true, false, Bool·beq, _&&_, _||_, and-false, false≢true}
+use mathlib.Core.Bool.{Bool, true, false, Bool·beq, _&&_, _||_, and-false, false≢true, not}
 use lib.ListN.{List·getD-eq-default}
 use lib.Dec.{leb, ltb, eqb}
-use borrow.Author.Tests.{lt-leb, ne-eqb, ltb-true, ltb-false}
-use Rattle.model.specs.Object.{unknown, kinds, kindOf, known, roleBits, roleOf}
+use borrow.Author.Tests.{lt-leb, eq-eqb, ne-eqb, ltb-true, ltb-false}
+use Rattle.model.specs.Number.{isSet}
+use Rattle.model.specs.Object.{Object, isConstraint, unknown, kinds, kindOf, known, roleBits, roleOf}
 use Rattle.model.specs.Table.{row}
 use Rattle.model.specs.Reading.{cannotBe}
+use Rattle.model.specs.Constraint.{unknownMandatory}
+use Rattle.model.specs.Unknown.{isUnknownMandatory}
 use Rattle.model.specs.Exact.{KnownTypes, MisusedTypes}
 use Rattle.model.proofs.NumberLaws.{allBelow, below-all}
 
@@ -67,3 +70,28 @@ misused-at t c r h g = go (ltb t 8) refl
 pub misused-types : MisusedTypes
 unfolding roleOf
 misused-types es o = misused-at (o .type) (o .flags / 2 % 2) (o .mode / 128 % 2) (omega arith) (omega arith)
+
+-- ---- an unknown mandatory constraint by numbers
+
+constraint-bit : (c r : ℕ) → c < 2 → isConstraint (roleBits c r) ≡ eqb c 1
+constraint-bit zero zero h = refl
+constraint-bit zero (suc r) h = refl
+constraint-bit (suc c) r h = sym (eq-eqb (suc c) 1 (omega arith))
+
+optional-bit : (o : ℕ) → o < 2 → not (isSet o) ≡ eqb o 0
+optional-bit zero h = refl
+optional-bit (suc o) h = let e : suc o ≡ 1 = omega arith in rw e
+
+pub unknown-mandatory : (o : Object) → isUnknownMandatory o ≡ unknownMandatory o
+unfolding roleOf
+unknown-mandatory o =
+    rw (known-types (o .type), constraint-bit (o .flags / 2 % 2) (o .mode / 128 % 2) (omega arith), optional-bit (o .flags % 2) (omega arith))
+    (turn (not (leb 1 (o .type) && leb (o .type) 7)) (eqb (o .flags / 2 % 2) 1) (eqb (o .flags % 2) 0))
+  where
+    turn : (a b c : Bool) → a && b && c ≡ b && c && a
+    turn true true true = refl
+    turn true true false = refl
+    turn true false c = refl
+    turn false true true = refl
+    turn false true false = refl
+    turn false false c = refl

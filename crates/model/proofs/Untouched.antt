@@ -19,7 +19,8 @@ use Rattle.model.proofs.ChoiceLaws.{isParent}
 use Rattle.model.proofs.Refusals.{refusal-is}
 use Rattle.model.proofs.Selection.{has-parent}
 use Rattle.model.proofs.CallLaws.{unrefused}
-use Rattle.model.proofs.OutgoingLaws.{Sending, nobody, asLeaf, sends, sending, fits}
+use Rattle.model.proofs.OutgoingLaws.{Sending, nobody, asLeaf, sends, sending}
+use Rattle.model.proofs.LeafLaws.{fits}
 
 refused-untouched : (n : ℕ) (out : List ℕ) → Untouched out (refusedBy (suc n) out)
 refused-untouched n out = record {

@@ -5,16 +5,16 @@ use mathlib.Core.Bool.{Bool, true, false, cond}
 use mathlib.Core.List.{List, [], _∷_}
 use native.Mathlib.Omega.{arith}
 use lib.ListN.{length, take, length-append, length-take}
-use lib.Dec.{ltb}
-use borrow.Author.Tests.{ltb-false, le-ltb}
+use borrow.Author.Tests.{le-ltb}
 use Rattle.model.specs.declared.Own.{Own}
 use Rattle.model.specs.declared.Neighbour.{Neighbour}
-use Rattle.model.specs.Number.{_when_, firstCase, firstOf}
+use Rattle.model.specs.Number.{firstOf}
 use Rattle.model.specs.Object.{Object, fieldA, join, container, Kind, unknown, lql, node, scalar, Node, nsa, ne, hp, Scalar, throughput, latency, etx, known, kind, Role, constraint, recorded, aggregated, roleBits, roleOf, role}
 use Rattle.model.specs.Table.{row}
 use Rattle.model.specs.Update.{localValue, valueOr0, onTwo, clear0, clear1, combine1, aggregatedBody, constraintBody, addsNothing, nextBody, nextFlags, nextMode, updateObject, update, noEnergy, objectLeaf, tooLong, leafAnswer}
 use Rattle.model.specs.Cut.{cutBody, cutObject, keepIf, cut, cutContainer}
 use Rattle.model.proofs.NumberLaws.{first-zero}
+use Rattle.model.proofs.LeafLaws.{fits}
 use Rattle.model.proofs.CutLaws.{cutBody-byte0, cutBody-byte1}
 use Rattle.model.proofs.ReadingLaws.{cutContainer-container}
 
@@ -126,14 +126,10 @@ cut-length (o ∷ os) = go (known (kind o)) (cut-length os)
     go true ih = simp length-append (omega (arith, cutBody-length (role o) (row (kind o) .tlvs) (o .body)))
     go false ih = simp length-append (omega arith)
 
-fits : (n : ℕ) (b : Bool) → ltb 255 n ≡ b → firstCase (35 when b ∷ []) ≡ 0 → n ≤ 255
-fits n true q e = absurd (omega arith)
-fits n false q e = ltb-false 255 n q
-
 pub leafAnswer-cut : (own : Own) (c : Neighbour) (os : List Object) → leafAnswer own c os ≡ 0 → leafAnswer own c (cut os) ≡ 0
 unfolding leafAnswer tooLong
 leafAnswer-cut own c os e =
     let (h, t) = first-zero (firstOf (objectLeaf own c) os) _ e in
-    let small = fits (length (join (update own c os))) _ refl t in
+    let small = fits own c os e in
     let less = cut-length (update own c os) in
     rw (leaves-cut own c os h, ← update-cut own c os, le-ltb 255 (length (join (cut (update own c os)))) (omega arith))

@@ -1,9 +1,9 @@
 -- What an unbarred verdict says, and that its number alone is 10.
-use mathlib.Core.Path.{_≡_, refl, _∙_}
+use mathlib.Core.Path.{_≡_, refl, sym, _∙_}
 use Prim.Native.Nat.{ℕ, _+_, _*_, _≤_, _<_}
 use native.Mathlib.Nat.{mul-le-mul}
 use native.Mathlib.Omega.{arith}
-use mathlib.Core.Bool.{true, false, false≢true}
+use mathlib.Core.Bool.{Bool, true, false, not, false≢true, true≢false}
 use mathlib.Core.List.{List, [], _∷_}
 use lib.Dec.{leb, ltb, eqb}
 use borrow.Author.Tests.{ltb-false, leb-false, ne-eqb}
@@ -17,7 +17,8 @@ use Rattle.model.specs.Object.{Object}
 use Rattle.model.specs.Reading.{Reading, refused, wellFormed, reading}
 use Rattle.model.specs.Rank.{infinite, resulting, rankTooHigh, aboveLowest}
 use Rattle.model.specs.Verdict.{outOfRange, containerOf, outside, judgeReading, verdict, numberOf, isUnbarred}
-use Rattle.model.specs.Exact.{barsTo19}
+use Rattle.model.specs.Number.{anyOf}
+use Rattle.model.specs.Conditions.{barsTo19, barsTo21, barredByNothing}
 use Rattle.model.proofs.BoolLaws.{neither}
 use Rattle.model.proofs.Bars.{verdict-exact, never-10}
 use Rattle.model.proofs.NumberLaws.{none-parts}
@@ -53,6 +54,15 @@ module _ (own : Own) (lent : List ℕ) (c : Candidate) where
       go : (v : Verdict) → verdict own lent c ≡ v → isUnbarred v ≡ true → Admitted own lent c
       go (Unbarred r) e h = admitted-rank r e
       go (Barred n p) e h = absurd (false≢true h)
+
+  -- a candidate is unbarred exactly where no condition of a bar holds
+  pub nothing-bars : barredByNothing own lent c ≡ isUnbarred (verdict own lent c)
+  nothing-bars = go (anyOf (λ b. b) (barsTo21 own lent c)) refl (verdict own lent c) refl
+    where
+      go : (b : Bool) → anyOf (λ b. b) (barsTo21 own lent c) ≡ b → (v : Verdict) → verdict own lent c ≡ v → not b ≡ isUnbarred v
+      go false e v q = let u = verdict-exact own lent c .unbarred (record { 0 = resulting own (c .neighbour) }) .1 (e, refl) in rw (sym q ∙ u)
+      go true e (Unbarred r) q = absurd (true≢false (sym e ∙ verdict-exact own lent c .unbarred r .0 q .0))
+      go true e (Barred n p) q = refl
 
   -- only an unbarred candidate has verdict 10
   pub ten : eqb (numberOf (verdict own lent c)) 10 ≡ isUnbarred (verdict own lent c)

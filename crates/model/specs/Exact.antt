@@ -4,12 +4,11 @@ use Prim.Native.Nat.{ℕ, _<_}
 use mathlib.Core.Bool.{Bool, true, false, _&&_, _||_}
 use mathlib.Core.List.{List, [], _∷_, _++_, map}
 use mathlib.Core.Logic.{_↔_}
-use mathlib.Core.Option.{Option, none, some}
+use mathlib.Core.Option.{some}
 use lib.ListN.{length, getD, getElem?, replicate}
 use lib.Dec.{leb, eqb}
 use Rattle.model.specs.declared.Rank.{Rank}
 use Rattle.model.specs.declared.Answer.{Answer}
-use Rattle.model.specs.declared.Summary.{Summary}
 use Rattle.model.specs.declared.Own.{Own}
 use Rattle.model.specs.declared.Neighbour.{Neighbour}
 use Rattle.model.specs.declared.Candidate.{Candidate}
@@ -17,12 +16,13 @@ use Rattle.model.specs.declared.Verdict.{Verdict}
 use Rattle.model.specs.declared.Verdict.the-variants.{Unbarred, Barred}
 use Rattle.model.specs.Number.{anyOf}
 use Rattle.model.specs.Object.{Object, bitC, bitR, Standing, standings, kindOf, known}
-use Rattle.model.specs.Reading.{Reading, refused, wellFormed, reading, noPlace, misframed, dataObjects, runsPast, malformed, repeated, misused}
+use Rattle.model.specs.Reading.{Reading, refused, wellFormed, reading, noPlace, misframed, runsPast, malformed, repeated, misused}
 use Rattle.model.specs.Constraint.{summary, unknownMandatory, unmet}
 use Rattle.model.specs.Rank.{infinite, resulting, rankTooHigh, aboveLowest}
 use Rattle.model.specs.Verdict.{outOfRange, containerOf, outside, verdict}
 use Rattle.model.specs.Update.{unknownAggregated, notAllowed, noValue, fullCount, tooLong}
 use Rattle.model.specs.Choice.{badOwn, tooMany, currentPast, shortOutput, noParent, call}
+use Rattle.model.specs.Conditions.{someHas, objectsIn, objectBars, constraintBars, barsTo14, barsTo17, barsTo19, barsTo21}
 use Rattle.model.specs.Selection.{PreferredParent}
 
 -- none of some conditions holds
@@ -32,10 +32,6 @@ NoneOf bs = anyOf (λ b. b) bs ≡ false
 -- a condition holds, and none of those before it does
 abbrev pub FirstToHold : (before : List Bool) → Bool → Type 0
 FirstToHold before b = NoneOf before × (b ≡ true)
-
--- some element of a list has one of several properties
-abbrev pub someHas {ℓ} : {A : Type ℓ} → List (A → Bool) → List A → Bool
-someHas ts xs = anyOf (λ x. anyOf (λ t. t x) ts) xs
 
 -- the first element with a property of the group stands at an index; it has this property, and none of those of a lower number
 pub record FirstWith {A : Type 0} (xs : List A) (group lower : List (A → Bool)) (property : A → Bool) (index : ℕ) : Type 0 where
@@ -75,36 +71,6 @@ RefusedAnswers = (own : Own) (cs : List Candidate) (lent out : List ℕ) → (ca
 
 -- ---- bars 11 to 21
 
--- the list that is there, or none
-abbrev pub listOf : Option (List Object) → List Object
-listOf none = []
-listOf (some os) = os
-
--- the objects of a container that does not run past its end
-abbrev pub objectsIn : List ℕ → List Object
-objectsIn bs = listOf (dataObjects bs)
-
--- the conditions at an object: bars 15 to 17
-abbrev pub objectBars : List (Standing → Bool)
-objectBars = malformed ∷ repeated ∷ misused ∷ []
-
--- the conditions at an object: bars 18 and 19
-abbrev pub constraintBars : Neighbour → Summary → List (Object → Bool)
-constraintBars c s = unknownMandatory ∷ unmet c s ∷ []
-
--- the conditions of bars 11 to 14
-abbrev pub barsTo14 : (lent : List ℕ) → Candidate → List Bool
-barsTo14 lent c = outOfRange (c .neighbour) ∷ outside lent c ∷ misframed (containerOf lent c) ∷ runsPast (containerOf lent c) ∷ []
-
--- the conditions of bars 11 to 17
-abbrev pub barsTo17 : (lent : List ℕ) → Candidate → List Bool
-barsTo17 lent c = barsTo14 lent c ++ (someHas objectBars (standings [] (objectsIn (containerOf lent c))) ∷ [])
-
--- the conditions of bars 11 to 19
-abbrev pub barsTo19 : (lent : List ℕ) → Candidate → List Bool
-barsTo19 lent c =
-    barsTo17 lent c ++ (someHas (constraintBars (c .neighbour) (summary (objectsIn (containerOf lent c)))) (objectsIn (containerOf lent c)) ∷ [])
-
 -- bars 15 to 17 at the object of an index
 abbrev pub BarAt : (lent : List ℕ) → Candidate → (lower : List (Standing → Bool)) → (Standing → Bool) → (place : ℕ) → Type 0
 BarAt lent c lower bar place = NoneOf (barsTo14 lent c) × FirstWith (standings [] (objectsIn (containerOf lent c))) objectBars lower bar place
@@ -119,23 +85,58 @@ ConstraintAt lent c lower bar place =
 abbrev pub ReadingAt : List ℕ → (lower : List (Standing → Bool)) → (Standing → Bool) → (place : ℕ) → Type 0
 ReadingAt bs lower bar place = NoneOf (misframed bs ∷ runsPast bs ∷ []) × FirstWith (standings [] (objectsIn bs)) objectBars lower bar place
 
+-- when each bar is given, and when none is
+module _ (own : Own) (lent : List ℕ) (c : Candidate) where
+  abbrev pub When11 : Type 0
+  When11 = FirstToHold [] (outOfRange (c .neighbour))
+
+  abbrev pub When12 : Type 0
+  When12 = FirstToHold (outOfRange (c .neighbour) ∷ []) (outside lent c)
+
+  abbrev pub When13 : Type 0
+  When13 = FirstToHold (outOfRange (c .neighbour) ∷ outside lent c ∷ []) (misframed (containerOf lent c))
+
+  abbrev pub When14 : Type 0
+  When14 = FirstToHold (outOfRange (c .neighbour) ∷ outside lent c ∷ misframed (containerOf lent c) ∷ []) (runsPast (containerOf lent c))
+
+  abbrev pub When15 : (place : ℕ) → Type 0
+  When15 = BarAt lent c [] malformed
+
+  abbrev pub When16 : (place : ℕ) → Type 0
+  When16 = BarAt lent c (malformed ∷ []) repeated
+
+  abbrev pub When17 : (place : ℕ) → Type 0
+  When17 = BarAt lent c (malformed ∷ repeated ∷ []) misused
+
+  abbrev pub When18 : (place : ℕ) → Type 0
+  When18 = ConstraintAt lent c [] unknownMandatory
+
+  abbrev pub When19 : (place : ℕ) → Type 0
+  When19 = ConstraintAt lent c (unknownMandatory ∷ []) (unmet (c .neighbour) (summary (objectsIn (containerOf lent c))))
+
+  abbrev pub When20 : Type 0
+  When20 = FirstToHold (barsTo19 lent c) (rankTooHigh own (c .neighbour))
+
+  abbrev pub When21 : Type 0
+  When21 = FirstToHold (barsTo19 lent c ++ (rankTooHigh own (c .neighbour) ∷ [])) (aboveLowest own (c .neighbour))
+
+  abbrev pub WhenUnbarred : Type 0
+  WhenUnbarred = NoneOf (barsTo21 own lent c)
+
 -- `given`: the verdict on a candidate, with the place of the barring object
 pub record VerdictExact (own : Own) (lent : List ℕ) (c : Candidate) (given : Verdict) : Type 0 where
-  pub verdict-11 : (given ≡ Barred 11 noPlace) ↔ FirstToHold [] (outOfRange (c .neighbour))
-  pub verdict-12 : (given ≡ Barred 12 noPlace) ↔ FirstToHold (outOfRange (c .neighbour) ∷ []) (outside lent c)
-  pub verdict-13 : (given ≡ Barred 13 noPlace) ↔ FirstToHold (outOfRange (c .neighbour) ∷ outside lent c ∷ []) (misframed (containerOf lent c))
-  pub verdict-14 : (given ≡ Barred 14 noPlace)
-      ↔ FirstToHold (outOfRange (c .neighbour) ∷ outside lent c ∷ misframed (containerOf lent c) ∷ []) (runsPast (containerOf lent c))
-  pub verdict-15 : (place : ℕ) → (given ≡ Barred 15 place) ↔ BarAt lent c [] malformed place
-  pub verdict-16 : (place : ℕ) → (given ≡ Barred 16 place) ↔ BarAt lent c (malformed ∷ []) repeated place
-  pub verdict-17 : (place : ℕ) → (given ≡ Barred 17 place) ↔ BarAt lent c (malformed ∷ repeated ∷ []) misused place
-  pub verdict-18 : (place : ℕ) → (given ≡ Barred 18 place) ↔ ConstraintAt lent c [] unknownMandatory place
-  pub verdict-19 : (place : ℕ) → (given ≡ Barred 19 place)
-      ↔ ConstraintAt lent c (unknownMandatory ∷ []) (unmet (c .neighbour) (summary (objectsIn (containerOf lent c)))) place
-  pub verdict-20 : (given ≡ Barred 20 noPlace) ↔ FirstToHold (barsTo19 lent c) (rankTooHigh own (c .neighbour))
-  pub verdict-21 : (given ≡ Barred 21 noPlace) ↔ FirstToHold (barsTo19 lent c ++ (rankTooHigh own (c .neighbour) ∷ [])) (aboveLowest own (c .neighbour))
-  pub unbarred : (r : Rank) → (given ≡ Unbarred r)
-      ↔ (NoneOf (barsTo19 lent c ++ (rankTooHigh own (c .neighbour) ∷ aboveLowest own (c .neighbour) ∷ [])) × (r ≡ record { 0 = resulting own (c .neighbour) }))
+  pub verdict-11 : (given ≡ Barred 11 noPlace) ↔ When11 own lent c
+  pub verdict-12 : (given ≡ Barred 12 noPlace) ↔ When12 own lent c
+  pub verdict-13 : (given ≡ Barred 13 noPlace) ↔ When13 own lent c
+  pub verdict-14 : (given ≡ Barred 14 noPlace) ↔ When14 own lent c
+  pub verdict-15 : (place : ℕ) → (given ≡ Barred 15 place) ↔ When15 own lent c place
+  pub verdict-16 : (place : ℕ) → (given ≡ Barred 16 place) ↔ When16 own lent c place
+  pub verdict-17 : (place : ℕ) → (given ≡ Barred 17 place) ↔ When17 own lent c place
+  pub verdict-18 : (place : ℕ) → (given ≡ Barred 18 place) ↔ When18 own lent c place
+  pub verdict-19 : (place : ℕ) → (given ≡ Barred 19 place) ↔ When19 own lent c place
+  pub verdict-20 : (given ≡ Barred 20 noPlace) ↔ When20 own lent c
+  pub verdict-21 : (given ≡ Barred 21 noPlace) ↔ When21 own lent c
+  pub unbarred : (r : Rank) → (given ≡ Unbarred r) ↔ (WhenUnbarred own lent c × (r ≡ record { 0 = resulting own (c .neighbour) }))
 
 -- of every candidate
 abbrev pub VerdictsExact : Type 0
@@ -143,19 +144,18 @@ VerdictsExact = (own : Own) (lent : List ℕ) (c : Candidate) → VerdictExact o
 
 -- `given`: the verdict number that a call reports at a candidate's position
 pub record BarExact (own : Own) (lent : List ℕ) (c : Candidate) (given : ℕ) : Type 0 where
-  pub bar-11 : (given ≡ 11) ↔ FirstToHold [] (outOfRange (c .neighbour))
-  pub bar-12 : (given ≡ 12) ↔ FirstToHold (outOfRange (c .neighbour) ∷ []) (outside lent c)
-  pub bar-13 : (given ≡ 13) ↔ FirstToHold (outOfRange (c .neighbour) ∷ outside lent c ∷ []) (misframed (containerOf lent c))
-  pub bar-14 : (given ≡ 14) ↔ FirstToHold (outOfRange (c .neighbour) ∷ outside lent c ∷ misframed (containerOf lent c) ∷ []) (runsPast (containerOf lent c))
-  pub bar-15 : (given ≡ 15) ↔ ((place : ℕ) × BarAt lent c [] malformed place)
-  pub bar-16 : (given ≡ 16) ↔ ((place : ℕ) × BarAt lent c (malformed ∷ []) repeated place)
-  pub bar-17 : (given ≡ 17) ↔ ((place : ℕ) × BarAt lent c (malformed ∷ repeated ∷ []) misused place)
-  pub bar-18 : (given ≡ 18) ↔ ((place : ℕ) × ConstraintAt lent c [] unknownMandatory place)
-  pub bar-19 : (given ≡ 19)
-      ↔ ((place : ℕ) × ConstraintAt lent c (unknownMandatory ∷ []) (unmet (c .neighbour) (summary (objectsIn (containerOf lent c)))) place)
-  pub bar-20 : (given ≡ 20) ↔ FirstToHold (barsTo19 lent c) (rankTooHigh own (c .neighbour))
-  pub bar-21 : (given ≡ 21) ↔ FirstToHold (barsTo19 lent c ++ (rankTooHigh own (c .neighbour) ∷ [])) (aboveLowest own (c .neighbour))
-  pub no-bar : (given ≡ 10) ↔ NoneOf (barsTo19 lent c ++ (rankTooHigh own (c .neighbour) ∷ aboveLowest own (c .neighbour) ∷ []))
+  pub bar-11 : (given ≡ 11) ↔ When11 own lent c
+  pub bar-12 : (given ≡ 12) ↔ When12 own lent c
+  pub bar-13 : (given ≡ 13) ↔ When13 own lent c
+  pub bar-14 : (given ≡ 14) ↔ When14 own lent c
+  pub bar-15 : (given ≡ 15) ↔ ((place : ℕ) × When15 own lent c place)
+  pub bar-16 : (given ≡ 16) ↔ ((place : ℕ) × When16 own lent c place)
+  pub bar-17 : (given ≡ 17) ↔ ((place : ℕ) × When17 own lent c place)
+  pub bar-18 : (given ≡ 18) ↔ ((place : ℕ) × When18 own lent c place)
+  pub bar-19 : (given ≡ 19) ↔ ((place : ℕ) × When19 own lent c place)
+  pub bar-20 : (given ≡ 20) ↔ When20 own lent c
+  pub bar-21 : (given ≡ 21) ↔ When21 own lent c
+  pub no-bar : (given ≡ 10) ↔ WhenUnbarred own lent c
 
 -- of every candidate of every call that is not refused
 abbrev pub BarsExact : Type 0

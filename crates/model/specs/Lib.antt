@@ -9,6 +9,7 @@ pub mod Update
 pub mod Choice
 pub mod Listing
 pub mod Cut
+pub mod Conditions
 pub mod Selection
 pub mod Exact
 pub mod Untouched

@@ -1,21 +1,20 @@
 -- Document 01: unless the call is refused, a verdict depends only on own numbers, that candidate's, its container's bytes and, for bar 12, the length of the lent run.
 use mathlib.Core.Path.{_≡_}
-use mathlib.Core.Bool.{false}
-use Prim.Native.Nat.{ℕ}
+use Prim.Native.Nat.{ℕ, _+_, _≤_}
 use mathlib.Core.List.{List}
 use mathlib.Core.Option.{some}
-use lib.ListN.{getD, getElem?}
+use lib.ListN.{length, take, drop, getD, getElem?}
+use lib.Dec.{ltb}
 use Rattle.model.specs.declared.Own.{Own}
 use Rattle.model.specs.declared.Candidate.{Candidate}
 use Rattle.model.specs.Reading.{noPlace}
-use Rattle.model.specs.Verdict.{containerOf, outside}
 use Rattle.model.specs.Choice.{call}
 
 -- two candidates, each in its own lent run, with the same numbers, both inside or both not, and if inside with the same bytes
 pub record Alike (lent lent′ : List ℕ) (c c′ : Candidate) : Type 0 where
   pub numbers : c .neighbour ≡ c′ .neighbour
-  pub inside : outside lent c ≡ outside lent′ c′
-  pub bytes : outside lent c ≡ false → containerOf lent c ≡ containerOf lent′ c′
+  pub inside : ltb (length lent) (c .start + c .size) ≡ ltb (length lent′) (c′ .start + c′ .size)
+  pub bytes : c .start + c .size ≤ length lent → take (c .size) (drop (c .start) lent) ≡ take (c′ .size) (drop (c′ .start) lent′)
 
 -- in any two calls by one node that are not refused, two such candidates get the same verdict, whatever stands beside them
 abbrev pub Local : Type 0

@@ -3,7 +3,7 @@ use mathlib.Core.Path.{_≡_}
 use lib.Dec.{eqb}
 use mathlib.Core.Bool.{Bool, cond, not, _&&_, _||_}
 use Prim.Native.Nat.{_/_, ℕ, _+_, _≤_, _<_, min, max}
-use mathlib.Core.List.{List}
+use mathlib.Core.List.{List, map}
 use lib.ListN.{length, getD}
 use Rattle.model.specs.declared.Quantity.the-variants.{Known}
 use Rattle.model.specs.declared.Own.{Own}
@@ -13,7 +13,7 @@ use Rattle.model.specs.Number.{isSet, isUnknown, number}
 use Rattle.model.specs.Object.{Object, bitP, bitC, bitO, bitR, fieldA, fieldPrec, isRecorded, Scalar, scalar, node, hp, kind, aggregated, role, throughput, latency, etx, known}
 use Rattle.model.specs.Reading.{wellFormed, reading}
 use Rattle.model.specs.Constraint.{linkValue}
-use Rattle.model.specs.Update.{mostOf, updateObject, update}
+use Rattle.model.specs.Update.{mostOf, updateObject}
 use Rattle.model.specs.Choice.{call}
 use Rattle.model.specs.Selection.{PreferredParent}
 use Rattle.model.specs.RoundTrip.{Bytes}
@@ -22,7 +22,7 @@ use Rattle.model.specs.Untouched.{PassedOn, passedOn}
 -- the container passed on is well-formed, and holds the parent's objects, each updated
 abbrev pub ReadsBack : Type 0
 ReadsBack = (own : Own) (cs : List Candidate) (lent out : List ℕ) → PassedOn (call own cs lent out) → (p : PreferredParent own cs lent (call own cs lent out .answer))
-    → reading (passedOn (call own cs lent out)) ≡ wellFormed (update own (p .candidate .neighbour) (p .objects))
+    → reading (passedOn (call own cs lent out)) ≡ wellFormed (map (updateObject own (p .candidate .neighbour)) (p .objects))
 
 -- header bits as received and as sent on: reserved bits are cleared, O when C=0, R when C=1; P is kept, or set; nothing else changes
 pub record HeaderNext (o p : Object) (setP : Bool) : Type 0 where

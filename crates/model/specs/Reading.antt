@@ -92,7 +92,7 @@ objectCases s = 15 when malformed s ∷ 16 when repeated s ∷ 17 when misused s
 unfoldable pub objectBar : Standing → ℕ
 objectBar s = firstCase (objectCases s)
 
--- a container that is read: refused by a bar, with the index of its object; or well-formed (document 01's word), with its objects
+-- a container that is read: refused by a bar, with the index of its object; or well-formed by itself, with its objects
 pub data Reading : Type 0 where
   refused : (number place : ℕ) → Reading
   wellFormed : List Object → Reading

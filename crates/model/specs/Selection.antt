@@ -15,16 +15,13 @@ use Rattle.model.specs.Number.{isSet, anyOf}
 use Rattle.model.specs.Object.{Object}
 use Rattle.model.specs.Reading.{noPlace, wellFormed, reading}
 use Rattle.model.specs.Rank.{infinite, resulting}
-use Rattle.model.specs.Verdict.{containerOf, verdict, numberOf, placeOf, isUnbarred}
+use Rattle.model.specs.Verdict.{containerOf, verdict, numberOf, placeOf}
+use Rattle.model.specs.Conditions.{barredByNothing}
 use Rattle.model.specs.Choice.{currentOf, noParent, call}
 
 -- a parent is named
 abbrev pub hasParent : Answer → Bool
 hasParent a = not (eqb (a .parent) noParent)
-
--- a candidate that no bar holds of
-abbrev pub barredByNothing : Own → (lent : List ℕ) → Candidate → Bool
-barredByNothing own lent c = isUnbarred (verdict own lent c)
 
 -- how many numbers of a list are n
 unfoldable pub occurrences : (n : ℕ) → List ℕ → ℕ

@@ -1,26 +1,25 @@
 -- Demand 3: what is unknown changes no parent, rank, verdict, bit or count, but that an unknown mandatory constraint bars; what is passed on keeps it in its place.
 use mathlib.Core.Path.{_≡_}
 use Prim.Native.Nat.{ℕ}
-use mathlib.Core.Bool.{Bool, true, false, not, _||_}
+use mathlib.Core.Bool.{Bool, true, false, not, _||_, _&&_}
 use mathlib.Core.List.{List, [], _∷_}
 use mathlib.Core.Option.{some}
 use lib.ListN.{length, drop, getD, getElem?}
-use lib.Dec.{eqb}
+use lib.Dec.{leb, eqb}
 use Rattle.model.specs.declared.Own.{Own}
 use Rattle.model.specs.declared.Candidate.{Candidate}
 use Rattle.model.specs.declared.Rank.{Rank}
 use Rattle.model.specs.declared.Verdict.the-variants.{Unbarred}
 use Rattle.model.specs.declared.Answer.{Answer}
 use Rattle.model.specs.Number.{anyOf}
-use Rattle.model.specs.Object.{Object, split, known, kind, recorded, role, isRecorded}
+use Rattle.model.specs.Object.{Object, bitC, bitO, split, known, kind, recorded, role, isRecorded}
 use Rattle.model.specs.Table.{row}
 use Rattle.model.specs.Reading.{wellFormed, reading}
-use Rattle.model.specs.Constraint.{unknownMandatory}
 use Rattle.model.specs.Rank.{resulting}
 use Rattle.model.specs.Verdict.{containerOf, outside, verdict}
 use Rattle.model.specs.Choice.{Result, call}
 use Rattle.model.specs.Cut.{cutContainer}
-use Rattle.model.specs.Exact.{objectsIn}
+use Rattle.model.specs.Conditions.{objectsIn}
 use Rattle.model.specs.ReadBack.{HeaderNext}
 use Rattle.model.specs.Untouched.{PassedOn, passedOn}
 
@@ -31,7 +30,7 @@ pub data Each {A : Type 0} (R : A → A → Type 0) : List A → List A → Type
 
 -- ---- the two calls
 
--- a candidate whose container lies in the lent run and is well-formed
+-- document 01's word: a container is well-formed if it lies in the lent run and none of bars 13 to 17 holds of its bytes
 pub record WellFormed (lent : List ℕ) (c : Candidate) : Type 0 where
   pub inside : outside lent c ≡ false
   pub objects : List Object
@@ -73,9 +72,13 @@ pub record KeepsPlaces (cs : List Candidate) (lent : List ℕ) (r : Result) : Ty
 abbrev pub barredAt : Result → (position : ℕ) → Bool
 barredAt r i = not (eqb (getD (r .answer .verdicts) i 0) 10)
 
+-- document 01's word: an unknown mandatory constraint has an unknown type (not 1 to 7), C=1 and O=0
+abbrev pub isUnknownMandatory : Object → Bool
+isUnknownMandatory o = not (leb 1 (o .type) && leb (o .type) 7) && eqb (bitC o) 1 && eqb (bitO o) 0
+
 -- a candidate's container holds an unknown mandatory constraint
 abbrev pub holdsUnknown : (lent : List ℕ) → Candidate → Bool
-holdsUnknown lent c = anyOf unknownMandatory (objectsIn (containerOf lent c))
+holdsUnknown lent c = anyOf isUnknownMandatory (objectsIn (containerOf lent c))
 
 -- parent, rank, verdict numbers, candidate bits and count are the same
 pub record SameAnswers (a a′ : Answer) : Type 0 where

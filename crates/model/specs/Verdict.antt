@@ -30,7 +30,7 @@ outside lent c = ltb (length lent) (c .start + c .size)
 abbrev pub rankCases : Own → Neighbour → List Case
 rankCases own c = 20 when rankTooHigh own c ∷ 21 when aboveLowest own c ∷ []
 
--- bars 20 and 21
+-- the lower of 20 and 21
 unfoldable pub rankBar : Own → Neighbour → ℕ
 rankBar own c = firstCase (rankCases own c)
 

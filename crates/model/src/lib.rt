@@ -1,6 +1,6 @@
 // The plain data that every crate shares; crates/model/specs says what is true of it.
 
-// A rank (RFC 6550): 65535 is the infinite rank, which no node advertises.
+// A rank (RFC 6550): 65535 is the infinite rank, by which a node says that it has no route.
 #[repr(C)]
 pub struct Rank(pub u16);
 

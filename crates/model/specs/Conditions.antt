@@ -1,0 +1,57 @@
+-- The conditions of bars 11 to 21, gathered in document 01's order.
+use Prim.Native.Nat.{ℕ}
+use mathlib.Core.Bool.{Bool, not}
+use mathlib.Core.List.{List, [], _∷_, _++_}
+use mathlib.Core.Option.{Option, none, some}
+use Rattle.model.specs.declared.Summary.{Summary}
+use Rattle.model.specs.declared.Own.{Own}
+use Rattle.model.specs.declared.Neighbour.{Neighbour}
+use Rattle.model.specs.declared.Candidate.{Candidate}
+use Rattle.model.specs.Number.{anyOf}
+use Rattle.model.specs.Object.{Object, Standing, standings}
+use Rattle.model.specs.Reading.{misframed, dataObjects, runsPast, malformed, repeated, misused}
+use Rattle.model.specs.Constraint.{summary, unknownMandatory, unmet}
+use Rattle.model.specs.Rank.{rankTooHigh, aboveLowest}
+use Rattle.model.specs.Verdict.{outOfRange, containerOf, outside}
+
+-- some element of a list has one of several properties
+abbrev pub someHas {ℓ} : {A : Type ℓ} → List (A → Bool) → List A → Bool
+someHas ts xs = anyOf (λ x. anyOf (λ t. t x) ts) xs
+
+-- the list that is there, or none
+abbrev pub listOf : Option (List Object) → List Object
+listOf none = []
+listOf (some os) = os
+
+-- the objects of a container that does not run past its end
+abbrev pub objectsIn : List ℕ → List Object
+objectsIn bs = listOf (dataObjects bs)
+
+-- the conditions at an object: bars 15 to 17
+abbrev pub objectBars : List (Standing → Bool)
+objectBars = malformed ∷ repeated ∷ misused ∷ []
+
+-- the conditions at an object: bars 18 and 19
+abbrev pub constraintBars : Neighbour → Summary → List (Object → Bool)
+constraintBars c s = unknownMandatory ∷ unmet c s ∷ []
+
+-- the conditions of bars 11 to 14
+abbrev pub barsTo14 : (lent : List ℕ) → Candidate → List Bool
+barsTo14 lent c = outOfRange (c .neighbour) ∷ outside lent c ∷ misframed (containerOf lent c) ∷ runsPast (containerOf lent c) ∷ []
+
+-- the conditions of bars 11 to 17
+abbrev pub barsTo17 : (lent : List ℕ) → Candidate → List Bool
+barsTo17 lent c = barsTo14 lent c ++ (someHas objectBars (standings [] (objectsIn (containerOf lent c))) ∷ [])
+
+-- the conditions of bars 11 to 19
+abbrev pub barsTo19 : (lent : List ℕ) → Candidate → List Bool
+barsTo19 lent c =
+    barsTo17 lent c ++ (someHas (constraintBars (c .neighbour) (summary (objectsIn (containerOf lent c)))) (objectsIn (containerOf lent c)) ∷ [])
+
+-- the conditions of bars 11 to 21
+abbrev pub barsTo21 : Own → (lent : List ℕ) → Candidate → List Bool
+barsTo21 own lent c = barsTo19 lent c ++ (rankTooHigh own (c .neighbour) ∷ aboveLowest own (c .neighbour) ∷ [])
+
+-- a candidate that no condition of a bar holds of
+abbrev pub barredByNothing : Own → (lent : List ℕ) → Candidate → Bool
+barredByNothing own lent c = not (anyOf (λ b. b) (barsTo21 own lent c))
