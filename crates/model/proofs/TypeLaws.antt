@@ -7,7 +7,7 @@ use lib.ListN.{List·getD-eq-default}
 use lib.Dec.{leb, ltb, eqb}
 use borrow.Author.Tests.{lt-leb, eq-eqb, ne-eqb, ltb-true, ltb-false}
 use Rattle.model.specs.Number.{isSet}
-use Rattle.model.specs.Object.{Object, isConstraint, unknown, kinds, kindOf, known, roleBits, roleOf}
+use Rattle.model.specs.Object.{Object, isConstraint, isHp, unknown, kinds, kindOf, known, roleBits, roleOf}
 use Rattle.model.specs.Table.{row}
 use Rattle.model.specs.Reading.{cannotBe}
 use Rattle.model.specs.Constraint.{unknownMandatory}
@@ -30,12 +30,25 @@ below-8 : allBelow 8 (λ t. Bool·beq (known (kindOf t)) (leb 1 t && leb t 7)) �
 unfolding kindOf
 below-8 = refl
 
-pub known-types : KnownTypes
-known-types t = go (ltb t 8) refl
+-- two tests of a type agree where they do below 8, by computation, and behind the list of kinds
+pub every-type : (f g : ℕ → Bool) → allBelow 8 (λ t. Bool·beq (f t) (g t)) ≡ true → ((t : ℕ) → 8 ≤ t → f t ≡ g t) → (t : ℕ) → f t ≡ g t
+every-type f g h p t = go (ltb t 8) refl
   where
-    go : (b : Bool) → ltb t 8 ≡ b → known (kindOf t) ≡ leb 1 t && leb t 7
-    go true e = beq-true (known (kindOf t)) (leb 1 t && leb t 7) (below-all 8 (λ t. Bool·beq (known (kindOf t)) (leb 1 t && leb t 7)) below-8 t (ltb-true t 8 e))
-    go false e = let l = ltb-false t 8 e in past-kinds t l ∙ sym (rw (lt-leb t 7 (omega arith)) (and-false (leb 1 t)))
+    go : (b : Bool) → ltb t 8 ≡ b → f t ≡ g t
+    go true e = beq-true (f t) (g t) (below-all 8 (λ t. Bool·beq (f t) (g t)) h t (ltb-true t 8 e))
+    go false e = p t (ltb-false t 8 e)
+
+pub known-types : KnownTypes
+known-types = every-type (λ t. known (kindOf t)) (λ t. leb 1 t && leb t 7) below-8 (λ t l. past-kinds t l ∙ sym (rw (lt-leb t 7 (omega arith)) (and-false (leb 1 t))))
+
+-- HP is type 3
+hp-below : allBelow 8 (λ t. Bool·beq (isHp (kindOf t)) (eqb t 3)) ≡ true
+unfolding kindOf
+hp-below = refl
+
+pub hp-type : (t : ℕ) → isHp (kindOf t) ≡ eqb t 3
+unfolding kindOf
+hp-type = every-type (λ t. isHp (kindOf t)) (λ t. eqb t 3) hp-below (λ t l. rw (List·getD-eq-default kinds unknown l, ne-eqb t 3 (λ q. omega arith)))
 
 -- a type that no rule names
 no-rule : (t : ℕ) (a b c : Bool) → 8 ≤ t → a && ((eqb t 1 || eqb t 3) && b || eqb t 6 && c) ≡ false

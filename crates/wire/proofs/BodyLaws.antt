@@ -1,0 +1,129 @@
+-- Bodies by the columns of the row that code reads.
+use mathlib.Core.Path.{_≡_, refl, sym, subst}
+use Prim.Native.Nat.{ℕ, _+_, _-_, _%_, _≤_, _<_}
+use native.Mathlib.Nat.{mod-zero, mod-one}
+use native.Mathlib.Omega.{arith}
+use mathlib.Core.Bool.{true, false, _||_, not, false≢true, true≢false}
+use mathlib.Core.List.{List}
+use lib.ListN.{length, take, drop, length-drop}
+use lib.Seq.{take-all}
+use lib.Dec.{eqb}
+use borrow.Author.Tests.{le-leb, lt-leb}
+use Rattle.model.specs.Object.{Kind, unknown, lql, node, scalar, nsa, ne, hp, throughput, latency, etx, kindOf, Role, constraint, recorded, aggregated, roleOf, isConstraint, isRecorded}
+use Rattle.model.specs.Table.{row}
+use Rattle.model.specs.Reading.{tlvsFit, fixedShape, recordedShape, shaped, cannotBe, isEmpty}
+use Rattle.wire.specs.declared.objects.Header.{Header}
+use Rattle.wire.specs.declared.table.Row.{Row}
+use Rattle.wire.specs.Row.{rowIn, rowFor}
+
+-- what holds of the row of a type's kind holds of the row that code reads
+by-kind : (P : Row → Kind → Type 0) → ((k : Kind) → P (rowIn k) k) → (w : Row) (t : ℕ) → w ≡ rowFor t → P w (kindOf t)
+unfolding rowFor
+by-kind P f w t e = subst (λ (r : Row). P r (kindOf t)) (sym e) (f (kindOf t))
+
+-- ---- a constraint or an aggregated metric
+
+pub fixed-tlvs : (w : Row) (t : ℕ) (b : List ℕ) → w ≡ rowFor t → w .tlvs ≡ true → w .base ≤ length b
+    → tlvsFit (take (length b - w .base) (drop (w .base) b)) ≡ fixedShape (row (kindOf t)) b
+fixed-tlvs w t b e = by-kind (λ w k. w .tlvs ≡ true → w .base ≤ length b → tlvsFit (take (length b - w .base) (drop (w .base) b)) ≡ fixedShape (row k) b) at-kind w t e
+  where
+    at-kind : (k : Kind) → row k .tlvs ≡ true → row k .base ≤ length b → tlvsFit (take (length b - row k .base) (drop (row k .base) b)) ≡ fixedShape (row k) b
+    at-kind k h l =
+        let r : length (drop (row k .base) b) ≤ length b - row k .base = rw length-drop (omega arith) in
+        rw (h, le-leb (row k .base) (length b) l, take-all (length b - row k .base) (drop (row k .base) b) r)
+
+pub fixed-short : (w : Row) (t : ℕ) (b : List ℕ) → w ≡ rowFor t → w .tlvs ≡ true → length b < w .base → false ≡ fixedShape (row (kindOf t)) b
+fixed-short w t b e = by-kind (λ w k. w .tlvs ≡ true → length b < w .base → false ≡ fixedShape (row k) b) (λ k h l. rw (h, lt-leb (row k .base) (length b) l)) w t e
+
+pub fixed-plain : (w : Row) (t : ℕ) (b : List ℕ) → w ≡ rowFor t → w .tlvs ≡ false → eqb (length b) (w .base) ≡ fixedShape (row (kindOf t)) b
+fixed-plain w t b e = by-kind (λ w k. w .tlvs ≡ false → eqb (length b) (w .base) ≡ fixedShape (row k) b) (λ k h. rw h) w t e
+
+-- ---- a recorded metric
+
+pub series-short : (w : Row) (t : ℕ) (b : List ℕ) → w ≡ rowFor t → length b < w .lead + w .size → false ≡ recordedShape (row (kindOf t)) b
+series-short w t b e = by-kind (λ w k. length b < w .lead + w .size → false ≡ recordedShape (row k) b) (λ k l. rw (lt-leb (row k .lead + row k .size) (length b) l)) w t e
+
+pub series-by : (w : Row) (t : ℕ) (b : List ℕ) (d : ℕ) → w ≡ rowFor t → w .lead + w .size ≤ length b → w .size ≡ d
+    → eqb ((length b - w .lead) % d) 0 ≡ recordedShape (row (kindOf t)) b
+series-by w t b d e =
+    by-kind (λ w k. w .lead + w .size ≤ length b → w .size ≡ d → eqb ((length b - w .lead) % d) 0 ≡ recordedShape (row k) b)
+    (λ k l q. rw (le-leb (row k .lead + row k .size) (length b) l, q)) w t e
+
+-- the other sizes are 1 and 0
+pub series-else : (w : Row) (t : ℕ) (b : List ℕ) → w ≡ rowFor t → w .lead + w .size ≤ length b → (w .size ≡ 4 → ⊥) → (w .size ≡ 2 → ⊥)
+    → eqb (w .size) 1 || eqb (length b - w .lead) 0 ≡ recordedShape (row (kindOf t)) b
+series-else w t b e =
+    by-kind (λ w k. w .lead + w .size ≤ length b → (w .size ≡ 4 → ⊥) → (w .size ≡ 2 → ⊥) → eqb (w .size) 1 || eqb (length b - w .lead) 0 ≡ recordedShape (row k) b)
+    (λ k l x y. rw (le-leb (row k .lead + row k .size) (length b) l) (sizes k (length b - row k .lead) x y)) w t e
+  where
+    sizes : (k : Kind) (n : ℕ) → (row k .size ≡ 4 → ⊥) → (row k .size ≡ 2 → ⊥) → eqb (row k .size) 1 || eqb n 0 ≡ eqb (n % row k .size) 0
+    sizes unknown n x y = rw (mod-zero n)
+    sizes (node nsa) n x y = rw (mod-zero n)
+    sizes (node ne) n x y = absurd (y refl)
+    sizes (node hp) n x y = rw (mod-zero n)
+    sizes (scalar throughput) n x y = absurd (x refl)
+    sizes (scalar latency) n x y = absurd (x refl)
+    sizes lql n x y = rw (mod-one n)
+    sizes (scalar etx) n x y = absurd (y refl)
+
+-- ---- by the role of an object
+
+-- the role and the kind by a header
+abbrev roleIn : Header → Role
+roleIn h = roleOf (h .flags) (h .mode)
+
+abbrev kindIn : Header → Kind
+kindIn h = kindOf (h .mctype)
+
+pub shaped-recorded : (h : Header) (b : List ℕ) → isRecorded (roleIn h) ≡ true → recordedShape (row (kindIn h)) b ≡ shaped (roleIn h) (row (kindIn h)) b
+shaped-recorded h b e = go (roleIn h) e
+  where
+    go : (r : Role) → isRecorded r ≡ true → recordedShape (row (kindIn h)) b ≡ shaped r (row (kindIn h)) b
+    go constraint e = absurd (false≢true e)
+    go recorded e = refl
+    go aggregated e = absurd (false≢true e)
+
+pub shaped-fixed : (h : Header) (b : List ℕ) → isRecorded (roleIn h) ≡ false → fixedShape (row (kindIn h)) b ≡ shaped (roleIn h) (row (kindIn h)) b
+shaped-fixed h b e = go (roleIn h) e
+  where
+    go : (r : Role) → isRecorded r ≡ false → fixedShape (row (kindIn h)) b ≡ shaped r (row (kindIn h)) b
+    go constraint e = refl
+    go recorded e = absurd (true≢false e)
+    go aggregated e = refl
+
+-- a constraint can be of any type
+pub misused-constraint : (h : Header) → isConstraint (roleIn h) ≡ true → false ≡ cannotBe (roleIn h) (row (kindIn h))
+misused-constraint h e = go (roleIn h) e
+  where
+    go : (r : Role) → isConstraint r ≡ true → false ≡ cannotBe r (row (kindIn h))
+    go constraint e = refl
+    go recorded e = absurd (false≢true e)
+    go aggregated e = absurd (false≢true e)
+
+pub misused-recorded : (h : Header) (w : Row) → w ≡ rowFor (h .mctype) → isRecorded (roleIn h) ≡ true → not (w .records) ≡ cannotBe (roleIn h) (row (kindIn h))
+misused-recorded h w q e = go (roleIn h) e
+  where
+    go : (r : Role) → isRecorded r ≡ true → not (w .records) ≡ cannotBe r (row (kindIn h))
+    go constraint e = absurd (false≢true e)
+    go recorded e = by-kind (λ w k. not (w .records) ≡ not (row k .records)) (λ k. refl) w (h .mctype) q
+    go aggregated e = absurd (false≢true e)
+
+-- a mask is 0 where no A is allowed
+masks : (k : Kind) → eqb (rowIn k .allows) 0 ≡ isEmpty (row k .allows)
+masks unknown = refl
+masks (node nsa) = refl
+masks (node ne) = refl
+masks (node hp) = refl
+masks (scalar throughput) = refl
+masks (scalar latency) = refl
+masks lql = refl
+masks (scalar etx) = refl
+
+pub misused-aggregated : (h : Header) (w : Row) → w ≡ rowFor (h .mctype) → isConstraint (roleIn h) ≡ false → isRecorded (roleIn h) ≡ false
+    → eqb (w .allows) 0 ≡ cannotBe (roleIn h) (row (kindIn h))
+misused-aggregated h w q c e = go (roleIn h) c e
+  where
+    go : (r : Role) → isConstraint r ≡ false → isRecorded r ≡ false → eqb (w .allows) 0 ≡ cannotBe r (row (kindIn h))
+    go constraint c e = absurd (true≢false c)
+    go recorded c e = absurd (true≢false e)
+    go aggregated c e = by-kind (λ w k. eqb (w .allows) 0 ≡ isEmpty (row k .allows)) masks w (h .mctype) q

@@ -1,0 +1,153 @@
+-- One object more behind others: the first bar, its index, the count of the HP metric.
+use mathlib.Core.Path.{_≡_, refl, sym, ap, _∙_}
+use Prim.Native.Nat.{ℕ, zero, suc, _+_, _≤_}
+use native.Mathlib.Omega.{arith}
+use mathlib.Core.Bool.{not}
+use mathlib.Core.List.{List, [], _∷_, _++_, append-assoc}
+use lib.ListN.{length, length-append}
+use Rattle.model.specs.Number.{first, firstOf, indexAfter, indexOf}
+use Rattle.model.specs.Object.{Object, standings}
+use Rattle.model.specs.Reading.{objectBar, readAs}
+use Rattle.model.specs.Constraint.{hopCount}
+use Rattle.model.specs.declared.Quantity.{Quantity}
+use Rattle.model.specs.declared.Quantity.the-variants.{Unknown}
+use Rattle.wire.specs.declared.container.Gathered.{Gathered}
+use Rattle.wire.specs.declared.container.Reading.the-variants.{Refused, WellFormed}
+use Rattle.wire.specs.Seen.{Marks}
+use Rattle.wire.specs.Gathered.{Gathers, wholeReading}
+use Rattle.wire.specs.Reading.{told}
+use Rattle.wire.proofs.SeenLaws.{no-marks}
+
+-- ---- the first element that a test numbers
+
+module _ {A : Type 0} (f : A → ℕ) where
+  pub first-snoc : (xs : List A) (x : A) → firstOf f (xs ++ (x ∷ [])) ≡ first (firstOf f xs) (f x)
+  unfolding firstOf
+  first-snoc [] x = go (f x)
+    where
+      go : (n : ℕ) → first n 0 ≡ n
+      go zero = refl
+      go (suc n) = refl
+  first-snoc (y ∷ xs) x = rw (first-snoc xs x) (go (f y) (firstOf f xs) (f x))
+    where
+      go : (a b c : ℕ) → first a (first b c) ≡ first (first a b) c
+      go zero b c = refl
+      go (suc a) b c = refl
+
+  -- where none is numbered, the index is that behind the last
+  pub index-none : (xs : List A) → firstOf f xs ≡ 0 → indexOf f xs ≡ length xs
+  unfolding firstOf indexOf
+  index-none [] e = refl
+  index-none (x ∷ xs) e = go (f x) e (index-none xs)
+    where
+      go : (n : ℕ) → first n (firstOf f xs) ≡ 0 → (firstOf f xs ≡ 0 → indexOf f xs ≡ length xs) → indexAfter n (indexOf f xs) ≡ suc (length xs)
+      go zero e ih = ap suc (ih e)
+      go (suc n) e ih = absurd (omega arith)
+
+  -- an element behind one that is numbered, or numbered itself, does not move the index
+  pub index-snoc : (xs : List A) (x : A) → (firstOf f (xs ++ (x ∷ [])) ≡ 0 → ⊥) → indexOf f (xs ++ (x ∷ [])) ≡ indexOf f xs
+  unfolding firstOf indexOf
+  index-snoc [] x h = go (f x) h
+    where
+      go : (n : ℕ) → (first n 0 ≡ 0 → ⊥) → indexAfter n 0 ≡ 0
+      go zero h = absurd (h refl)
+      go (suc n) h = refl
+  index-snoc (y ∷ xs) x h = go (f y) h (index-snoc xs x)
+    where
+      go : (n : ℕ) → (first n (firstOf f (xs ++ (x ∷ []))) ≡ 0 → ⊥) → ((firstOf f (xs ++ (x ∷ [])) ≡ 0 → ⊥) → indexOf f (xs ++ (x ∷ [])) ≡ indexOf f xs)
+          → indexAfter n (indexOf f (xs ++ (x ∷ []))) ≡ indexAfter n (indexOf f xs)
+      go zero h ih = ap suc (ih h)
+      go (suc n) h ih = refl
+
+  pub index-le : (xs : List A) → indexOf f xs ≤ length xs
+  unfolding indexOf
+  index-le [] = omega arith
+  index-le (x ∷ xs) = go (f x) (index-le xs)
+    where
+      go : (n : ℕ) → indexOf f xs ≤ length xs → indexAfter n (indexOf f xs) ≤ suc (length xs)
+      go zero l = omega arith
+      go (suc n) l = omega arith
+
+-- ---- the objects of a container, each with those before it
+
+standings-snoc : (es os : List Object) (o : Object) → standings es (os ++ (o ∷ [])) ≡ standings es os ++ (record { earlier = es ++ os; object = o } ∷ [])
+unfolding standings
+standings-snoc es [] o = rw (mathlib.Core.List.append-nil es)
+standings-snoc es (x ∷ os) o = rw (standings-snoc (es ++ (x ∷ [])) os o, append-assoc es (x ∷ []) os)
+
+length-standings : (es os : List Object) → length (standings es os) ≡ length os
+unfolding standings
+length-standings es [] = refl
+length-standings es (o ∷ os) = ap suc (length-standings (es ++ (o ∷ [])) os)
+
+-- the bar and the index among objects
+abbrev barAmong : List Object → ℕ
+barAmong os = firstOf objectBar (standings [] os)
+
+abbrev indexAmong : List Object → ℕ
+indexAmong os = indexOf objectBar (standings [] os)
+
+bar-snoc : (es : List Object) (o : Object) → barAmong (es ++ (o ∷ [])) ≡ first (barAmong es) (objectBar (record { earlier = es; object = o }))
+bar-snoc es o = ap (firstOf objectBar) (standings-snoc [] es o) ∙ first-snoc objectBar (standings [] es) (record { earlier = es; object = o })
+
+place-snoc : (es : List Object) (o : Object) → (barAmong (es ++ (o ∷ [])) ≡ 0 → ⊥) → indexAmong (es ++ (o ∷ [])) ≡ indexAmong es
+place-snoc es o h =
+    let s = standings-snoc [] es o in
+    ap (indexOf objectBar) s ∙ index-snoc objectBar (standings [] es) (record { earlier = es; object = o }) (λ e. h (ap (firstOf objectBar) s ∙ e))
+
+place-none : (os : List Object) → barAmong os ≡ 0 → indexAmong os ≡ length os
+place-none os e = index-none objectBar (standings [] os) e ∙ length-standings [] os
+
+-- ---- what is gathered
+
+pub gathers-none : Gathers (record { number = 0; place = 0; seen = 0; hops = Unknown }) []
+unfolding firstOf indexOf standings hopCount
+gathers-none = record { number = refl; place = refl; seen = λ e. no-marks; hops = λ e. refl }
+
+-- no more objects stand before the place than there are
+pub gathers-le : (g : Gathered) (es : List Object) → Gathers g es → g .place ≤ length es
+gathers-le g es w = rw (w .place, ← length-standings [] es) (index-le objectBar (standings [] es))
+
+module _ (g : Gathered) (es : List Object) (o : Object) (w : Gathers g es) where
+  -- behind a bar nothing changes
+  pub gathers-kept : (g .number ≡ 0 → ⊥) → Gathers g (es ++ (o ∷ []))
+  gathers-kept h =
+      let n : g .number ≡ barAmong (es ++ (o ∷ [])) = w .number ∙ sym (bar-snoc es o ∙ go (barAmong es) (λ e. h (w .number ∙ e))) in
+      record { number = n; place = w .place ∙ sym (place-snoc es o (λ e. h (n ∙ e))); seen = λ e. absurd (h e); hops = λ e. absurd (h e) }
+    where
+      go : (a : ℕ) → (a ≡ 0 → ⊥) → first a (objectBar (record { earlier = es; object = o })) ≡ a
+      go zero h = absurd (h refl)
+      go (suc a) h = refl
+
+  -- the first bar
+  pub gathers-bar : (n : ℕ) → g .number ≡ 0 → n ≡ objectBar (record { earlier = es; object = o }) → (n ≡ 0 → ⊥)
+      → Gathers (record { number = n; place = g .place; seen = g .seen; hops = g .hops }) (es ++ (o ∷ []))
+  gathers-bar n z e h =
+      let q : n ≡ barAmong (es ++ (o ∷ [])) = e ∙ sym (bar-snoc es o ∙ rw (← w .number, z)) in
+      record { number = q; place = w .place ∙ sym (place-snoc es o (λ x. h (q ∙ x))); seen = λ x. absurd (h x); hops = λ x. absurd (h x) }
+
+  -- no bar
+  pub gathers-more : (s : ℕ) (q : Quantity) → g .number ≡ 0 → 0 ≡ objectBar (record { earlier = es; object = o }) → Marks s (es ++ (o ∷ [])) → q ≡ hopCount (es ++ (o ∷ []))
+      → Gathers (record { number = 0; place = g .place + 1; seen = s; hops = q }) (es ++ (o ∷ []))
+  gathers-more s q z e m p =
+      let n : barAmong (es ++ (o ∷ [])) ≡ 0 = bar-snoc es o ∙ rw (← w .number, z) (sym e) in
+      let k : g .place ≡ length es = w .place ∙ place-none es (sym (w .number) ∙ z) in
+      record {
+        number = sym n;
+        place = rw (k, place-none (es ++ (o ∷ [])) n, length-append es (o ∷ []));
+        seen = λ x. m;
+        hops = λ x. p;
+      }
+
+-- what is gathered of all objects tells the reading
+pub gathers-refused : (g : Gathered) (os : List Object) → Gathers g os → (g .number ≡ 0 → ⊥) → Refused (g .number) (g .place) ≡ told (wholeReading os)
+gathers-refused g os w h = rw (w .number, w .place) (go (barAmong os) (λ e. h (w .number ∙ e)))
+  where
+    go : (n : ℕ) → (n ≡ 0 → ⊥) → Refused n (indexAmong os) ≡ told (readAs n (indexAmong os) os)
+    go zero h = absurd (h refl)
+    go (suc n) h = refl
+
+pub gathers-whole : (g : Gathered) (os : List Object) → Gathers g os → g .number ≡ 0 → WellFormed (g .place) (record { hops = g .hops }) ≡ told (wholeReading os)
+gathers-whole g os w z =
+    let n : barAmong os ≡ 0 = sym (w .number) ∙ z in
+    rw (w .place, w .hops z, place-none os n, n)

@@ -1,0 +1,30 @@
+-- The role of an object by its bits C and R.
+use mathlib.Core.Path.{_≡_, refl}
+use Prim.Native.Nat.{ℕ, zero, suc, _/_, _%_, _<_}
+use native.Mathlib.Omega.{arith}
+use mathlib.Core.Bool.{_&&_}
+use lib.Dec.{eqb}
+use Rattle.model.specs.Object.{isConstraint, isRecorded, roleBits, roleOf}
+
+constraint-bits : (c r : ℕ) → c < 2 → eqb c 1 ≡ isConstraint (roleBits c r)
+constraint-bits zero zero h = refl
+constraint-bits zero (suc r) h = refl
+constraint-bits (suc zero) r h = refl
+constraint-bits (suc (suc c)) r h = absurd (omega arith)
+
+recorded-bits : (c r : ℕ) → c < 2 → r < 2 → eqb c 0 && eqb r 1 ≡ isRecorded (roleBits c r)
+recorded-bits zero zero h l = refl
+recorded-bits zero (suc zero) h l = refl
+recorded-bits zero (suc (suc r)) h l = absurd (omega arith)
+recorded-bits (suc zero) r h l = refl
+recorded-bits (suc (suc c)) r h l = absurd (omega arith)
+
+-- a constraint has C=1
+pub constraint-by : (f m : ℕ) → eqb (f / 2 % 2) 1 ≡ isConstraint (roleOf f m)
+unfolding roleOf
+constraint-by f m = constraint-bits (f / 2 % 2) (m / 128 % 2) (omega arith)
+
+-- a recorded metric has C=0 and R=1
+pub recorded-by : (f m : ℕ) → eqb (f / 2 % 2) 0 && eqb (m / 128 % 2) 1 ≡ isRecorded (roleOf f m)
+unfolding roleOf
+recorded-by f m = recorded-bits (f / 2 % 2) (m / 128 % 2) (omega arith) (omega arith)

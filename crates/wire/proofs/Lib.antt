@@ -1,0 +1,10 @@
+pub mod HeaderLaws
+pub mod RowLaws
+pub mod WalkLaws
+pub mod TlvLaws
+pub mod BodyLaws
+pub mod BarLaws
+pub mod SeenLaws
+pub mod GatherLaws
+pub mod HopLaws
+pub mod ReadLaws

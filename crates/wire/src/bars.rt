@@ -1,0 +1,60 @@
+// Bars 15 to 17 at an object.
+ghost use mathlib.Core.Path.{_≡_};
+ghost use mathlib.Core.Bool.{true};
+ghost use mathlib.Core.List.{List};
+ghost use Rattle.model.specs.Number.{anyOf};
+ghost use Rattle.model.specs.Object.{Object, known, kindOf, roleOf};
+ghost use Rattle.model.specs.Table.{row};
+ghost use Rattle.model.specs.Reading.{cannotBe, shaped, sameUse, objectBar};
+ghost use Rattle.wire.specs.Step.{objectOf};
+use crate::bodies;
+use crate::objects;
+use crate::objects::Header;
+use crate::table;
+
+// Whether a metric is what its type cannot be: recorded, or aggregated by any A.
+fn is_misused(header: Header) -> bool
+    ensures { λ r. ⌜ r ≡ cannotBe (roleOf (header .flags) (header .mode)) (row (kindOf (header .mctype))) ⌝ }
+{
+    if objects::is_constraint(header) {
+        return false;
+    }
+    let row = table::row_of(header.mctype);
+    if objects::is_recorded(header) {
+        return !row.records;
+    }
+    row.allows == 0
+}
+
+// Whether a body is as tabled.
+fn is_shaped(header: Header, body: &[u8]) -> bool
+    ensures { λ r. ⌜ r ≡ shaped (roleOf (header .flags) (header .mode)) (row (kindOf (header .mctype))) (now (body .entry)) ⌝ }
+{
+    if objects::is_recorded(header) {
+        return bodies::is_series(header.mctype, body);
+    }
+    bodies::is_fixed(header.mctype, body)
+}
+
+// The lowest of 15, 16 and 17 at an object whose use was seen before it or not; 0 for none.
+pub fn object_bar(header: Header, body: &[u8], seen: bool) -> u8
+    ensures { λ r. ⌜ ((es : List Object) → (known (kindOf (header .mctype)) ≡ true → seen ≡ anyOf (sameUse (objectOf header (now (body .entry)))) es)
+        → r ≡ objectBar (record { earlier = es; object = objectOf header (now (body .entry)) })) ⌝ }
+{
+    if !table::is_known(header.mctype) {
+        return 0;
+    }
+    if is_misused(header) {
+        if seen {
+            return 16;
+        }
+        return 17;
+    }
+    if !is_shaped(header, body) {
+        return 15;
+    }
+    if seen {
+        return 16;
+    }
+    0
+}

@@ -1,0 +1,149 @@
+// A whole container: bars 13 and 14, then the first object with 15, 16 or 17; or what later passes ask of it.
+ghost use mathlib.Core.Path.{_≡_};
+ghost use Prim.Native.Nat.{_≤_, _<_};
+ghost use mathlib.Core.List.{List, [], _∷_, _++_};
+ghost use lib.ListN.{length};
+ghost use Rattle.model.specs.Object.{Object};
+ghost use Rattle.model.specs.Reading.{misframed, readAs, reading, wellFormed};
+ghost use Rattle.model.specs.Constraint.{hopCount};
+ghost use Rattle.wire.specs.Step.{objectOf};
+ghost use Rattle.wire.specs.Gathered.{Gathers, wholeReading};
+ghost use Rattle.wire.specs.Reading.{told};
+use crate::bars;
+use crate::objects;
+use crate::objects::Header;
+use crate::objects::Step;
+use crate::seen;
+use model::Quantity;
+use model::Summary;
+
+// A container that is read: refused by a bar, at the object of index place (255 for none); or well-formed, with the number
+// of its objects and what it tells the tests of its constraints.
+pub enum Reading {
+    Refused { number: u8, place: u8 },
+    WellFormed { count: u8, summary: Summary },
+}
+
+// What is gathered of the objects up to the first with a bar: its number, or 0; its index, or the number of objects; the
+// uses seen; the count of the HP metric.
+pub struct Gathered {
+    pub number: u8,
+    pub place: u8,
+    pub seen: u16,
+    pub hops: Quantity,
+}
+
+// Bar 13.
+fn is_misframed(container: &[u8]) -> bool
+    ensures { λ r. ⌜ r ≡ misframed (now (container .entry)) ⌝ }
+{
+    let n = container.len();
+    if n < 2 {
+        return true;
+    }
+    let size = container[1] as usize;
+    (container[0] != 2) | (size != n - 2)
+}
+
+// The count of the first HP metric, where an object comes behind others.
+fn hops_with(hops: Quantity, header: Header, body: &[u8]) -> Quantity
+    ensures { λ r. ⌜ ((es : List Object) → hops ≡ hopCount es → r ≡ hopCount (es ++ (objectOf header (now (body .entry)) ∷ []))) ⌝ }
+{
+    if (header.mctype != 3) | objects::is_constraint(header) {
+        return hops;
+    }
+    match hops {
+        Quantity::Known(v) => Quantity::Known(v),
+        Quantity::Unknown => {
+            if body.len() < 2 {
+                return Quantity::Known(0);
+            }
+            Quantity::Known(body[1] as u32)
+        }
+    }
+}
+
+// One object more.
+fn gather(g: Gathered, header: Header, body: &[u8]) -> Gathered
+    requires { ⌜ g .place < 255 ⌝ }
+    ensures { λ r. ⌜ ((es : List Object) → Gathers g es → Gathers r (es ++ (objectOf header (now (body .entry)) ∷ []))) ⌝ }
+{
+    if g.number != 0 {
+        return g;
+    }
+    let number = bars::object_bar(header, body, seen::has(g.seen, header));
+    let hops = g.hops;
+    if number != 0 {
+        return Gathered {
+            number,
+            place: g.place,
+            seen: g.seen,
+            hops,
+        };
+    }
+    Gathered {
+        number: 0,
+        place: g.place + 1,
+        seen: seen::with(g.seen, header),
+        hops: hops_with(hops, header, body),
+    }
+}
+
+// What is gathered of all objects of a container.
+fn conclude(g: Gathered) -> Reading
+    ensures { λ r. ⌜ ((os : List Object) → Gathers g os → r ≡ told (wholeReading os)) ⌝ }
+{
+    let hops = g.hops;
+    if g.number != 0 {
+        return Reading::Refused {
+            number: g.number,
+            place: g.place,
+        };
+    }
+    Reading::WellFormed {
+        count: g.place,
+        summary: Summary { hops },
+    }
+}
+
+// Reads a container, in one pass over its objects.
+pub fn read(container: &[u8]) -> Reading
+    ensures { λ r. ⌜ r ≡ told (reading (now (container .entry))) ⌝ }
+    ensures fits { λ r. ⌜ ((os : List Object) → reading (now (container .entry)) ≡ wellFormed os → length (now (container .entry)) ≤ 257) ⌝ }
+{
+    if is_misframed(container) {
+        return Reading::Refused {
+            number: 13,
+            place: 255,
+        };
+    }
+    let mut place = objects::first();
+    let mut g = Gathered {
+        number: 0,
+        place: 0,
+        seen: 0,
+        hops: Quantity::Unknown,
+    };
+    loop {
+        match objects::next(container, place) {
+            Step::Found {
+                header,
+                start,
+                end,
+                next,
+            } => {
+                g = gather(g, header, &container[start..end]);
+                place = next;
+            }
+            Step::CutShort => {
+                return Reading::Refused {
+                    number: 14,
+                    place: 255,
+                };
+            }
+            Step::End => {
+                return conclude(g);
+            }
+        }
+    }
+}
