@@ -8,7 +8,7 @@ use lib.ListN.{length, getD}
 use lib.Dec.{eqb, ltb}
 use borrow.Author.Tests.{eqb-true, not-false}
 use Rattle.model.specs.Object.{Object}
-use Rattle.model.specs.Reading.{misframed, reading, refused, wellFormed}
+use Rattle.model.specs.Reading.{misframed, reading}
 use Rattle.model.specs.declared.Quantity.the-variants.{Unknown}
 use Rattle.model.proofs.BoolLaws.{neither}
 use Rattle.wire.specs.declared.objects.Header.{Header}
@@ -39,7 +39,7 @@ pass-found bs p g r {h} {start} {end} {n} w e f =
     record { earlier = w .earlier ++ (objectIn bs h start end ∷ []); walked = walk-found bs p (w .earlier) (w .walked) e; gathers = f (w .earlier) (w .gathers) }
 
 -- a container that is framed is no longer than its data length says
-pub framed : (bs : List ℕ) → misframed bs ≡ false → getD bs 1 0 < 256 → length bs ≤ 257
+framed : (bs : List ℕ) → misframed bs ≡ false → getD bs 1 0 < 256 → length bs ≤ 257
 unfolding misframed
 framed bs m l =
     let (a, c) = neither (ltb (length bs) 2 || not (eqb (getD bs 0 0) 2)) (not (eqb (getD bs 1 0) (length bs - 2))) m in
@@ -54,10 +54,6 @@ pass-place bs p g w e m l = omega (arith, framed bs m l, walk-count bs p (w .ear
 pub read-13 : (bs : List ℕ) → misframed bs ≡ true → Refused 13 255 ≡ told (reading bs)
 unfolding reading
 read-13 bs m = rw m
-
-pub fits-13 : (bs : List ℕ) (os : List Object) → misframed bs ≡ true → reading bs ≡ wellFormed os → length bs ≤ 257
-unfolding reading
-fits-13 bs os m e = let z : refused 13 255 ≡ wellFormed os = rw m at e in absurd (let q : _≡_ {A = ℕ} 0 1 = cc in omega arith)
 
 -- bar 14
 pub read-14 : (bs : List ℕ) (p : Cursor) (g : Gathered) → misframed bs ≡ false → Pass bs p g → stepAt bs p ≡ CutShort → Refused 14 255 ≡ told (reading bs)

@@ -1,10 +1,9 @@
 // A whole container: bars 13 and 14, then the first object with 15, 16 or 17; or what later passes ask of it.
 ghost use mathlib.Core.Path.{_≡_};
-ghost use Prim.Native.Nat.{_≤_, _<_};
+ghost use Prim.Native.Nat.{_<_};
 ghost use mathlib.Core.List.{List, [], _∷_, _++_};
-ghost use lib.ListN.{length};
 ghost use Rattle.model.specs.Object.{Object};
-ghost use Rattle.model.specs.Reading.{misframed, readAs, reading, wellFormed};
+ghost use Rattle.model.specs.Reading.{misframed, reading};
 ghost use Rattle.model.specs.Constraint.{hopCount};
 ghost use Rattle.wire.specs.Step.{objectOf};
 ghost use Rattle.wire.specs.Gathered.{Gathers, wholeReading};
@@ -109,7 +108,6 @@ fn conclude(g: Gathered) -> Reading
 // Reads a container, in one pass over its objects.
 pub fn read(container: &[u8]) -> Reading
     ensures { λ r. ⌜ r ≡ told (reading (now (container .entry))) ⌝ }
-    ensures fits { λ r. ⌜ ((os : List Object) → reading (now (container .entry)) ≡ wellFormed os → length (now (container .entry)) ≤ 257) ⌝ }
 {
     if is_misframed(container) {
         return Reading::Refused {

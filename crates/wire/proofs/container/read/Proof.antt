@@ -1,5 +1,5 @@
-use Rattle.wire.proofs.WalkLaws.{found}
-use Rattle.wire.proofs.ReadLaws.{Pass, pass-first, pass-found, framed, pass-place, read-13, fits-13, read-14, read-whole}
+use Rattle.wire.proofs.WalkLaws.{step-inside}
+use Rattle.wire.proofs.ReadLaws.{Pass, pass-first, pass-found, pass-place, read-13, read-14, read-whole}
 use Prim.Native.Nat.{_-_}
 use mathlib.Core.Path.{sym, _∙_}
 use native.Mathlib.Omega.{arith}
@@ -20,7 +20,7 @@ is-misframed-requires c κs = search needs
 
 -- src/container.rt:115:9
 returns : tie.Need-returns Inv-loop μ-loop
-returns c = let m = sym (c .before .is-misframed .ensures) ∙ c .if1 .taken in (read-13 (c .before .before .before .args .container .now) m, λ os e. fits-13 (c .before .before .before .args .container .now) os m e)
+returns c = read-13 (c .before .before .before .args .container .now) (sym (c .before .is-misframed .ensures) ∙ c .if1 .taken)
 
 -- src/container.rt:120:9
 first-requires : tie.Need-first-requires Inv-loop μ-loop
@@ -40,15 +40,15 @@ enum-known-header c = search needs
 
 -- src/container.rt:135:39
 sub-gather : tie.Need-sub-gather Inv-loop μ-loop
-sub-gather c = let f = found (c .before .before .before .before .before .before .before .before .before .args .container .now) _ (sym (c .before .before .before .next .ensures) ∙ c .before .header .given .1) in omega (arith, f .end-at)
+sub-gather c = step-inside (c .before .before .before .before .before .before .before .before .before .args .container .now) _ (sym (c .before .before .before .next .ensures) ∙ c .before .header .given .1) .0
 
 -- src/container.rt:135:39
 part-gather-start : tie.Need-part-gather-start Inv-loop μ-loop
-part-gather-start c = let f = found (c .before .before .before .before .before .before .before .before .before .args .container .now) _ (sym (c .before .before .before .next .ensures) ∙ c .before .header .given .1) in omega (arith, f .end-at)
+part-gather-start c = let f = step-inside (c .before .before .before .before .before .before .before .before .before .args .container .now) _ (sym (c .before .before .before .next .ensures) ∙ c .before .header .given .1) in omega arith
 
 -- src/container.rt:135:39
 part-gather-end : tie.Need-part-gather-end Inv-loop μ-loop
-part-gather-end c = let f = found (c .before .before .before .before .before .before .before .before .before .args .container .now) _ (sym (c .before .before .before .next .ensures) ∙ c .before .header .given .1) in omega (arith, f .within)
+part-gather-end c = step-inside (c .before .before .before .before .before .before .before .before .before .args .container .now) _ (sym (c .before .before .before .next .ensures) ∙ c .before .header .given .1) .1 .0
 
 -- src/container.rt:135:17
 gather-requires : tie.Need-gather-requires Inv-loop μ-loop
@@ -56,7 +56,7 @@ gather-requires c κs = pass-place (c .before .before .before .before .before .b
 
 -- src/container.rt:127:5
 loop-less : tie.Need-loop-less Inv-loop μ-loop
-loop-less c = let f = found (c .before .before .before .before .before .before .before .before .before .before .before .args .container .now) _ (sym (c .before .before .before .before .before .next .ensures) ∙ c .before .before .before .header .given .1) in omega (arith, f .start-at, f .end-at, f .next-at, f .within)
+loop-less c = step-inside (c .before .before .before .before .before .before .before .before .before .before .before .args .container .now) _ (sym (c .before .before .before .before .before .next .ensures) ∙ c .before .before .before .header .given .1) .1 .1
 
 -- src/container.rt:127:5
 loop-again : tie.Need-loop-again Inv-loop μ-loop
@@ -68,7 +68,7 @@ enum-told c = search needs
 
 -- src/container.rt:139:17
 returns-2 : tie.Need-returns-2 Inv-loop μ-loop
-returns-2 c = let m = (sym (c .before .before .before .before .before .before .is-misframed .ensures) ∙ c .before .before .before .before .before .if1 .left) in (read-14 (c .before .before .before .before .before .before .before .before .args .container .now) _ _ m (c .before .before .before .loop .inv) (sym (c .before .before .next .ensures) ∙ c .enum-told .given .1), λ os e. framed (c .before .before .before .before .before .before .before .before .args .container .now) m (omega (arith, c .before .before .before .before .before .before .before .shared-slice-known .given 1)))
+returns-2 c = read-14 (c .before .before .before .before .before .before .before .before .args .container .now) _ _ (sym (c .before .before .before .before .before .before .is-misframed .ensures) ∙ c .before .before .before .before .before .if1 .left) (c .before .before .before .loop .inv) (sym (c .before .before .next .ensures) ∙ c .enum-told .given .1)
 
 -- src/container.rt:145:17
 enum-told-2 : tie.Need-enum-told-2 Inv-loop μ-loop
@@ -80,7 +80,7 @@ conclude-requires c κs = search needs
 
 -- src/container.rt:145:17
 returns-3 : tie.Need-returns-3 Inv-loop μ-loop
-returns-3 c = let m = (sym (c .before .before .before .before .before .before .before .is-misframed .ensures) ∙ c .before .before .before .before .before .before .if1 .left) in (read-whole (c .before .before .before .before .before .before .before .before .before .args .container .now) _ _ _ m (c .before .before .before .before .loop .inv) (sym (c .before .before .before .next .ensures) ∙ c .before .enum-told2 .given .1) (c .conclude .ensures), λ os e. framed (c .before .before .before .before .before .before .before .before .before .args .container .now) m (omega (arith, c .before .before .before .before .before .before .before .before .shared-slice-known .given 1)))
+returns-3 c = read-whole (c .before .before .before .before .before .before .before .before .before .args .container .now) _ _ _ (sym (c .before .before .before .before .before .before .before .is-misframed .ensures) ∙ c .before .before .before .before .before .before .if1 .left) (c .before .before .before .before .loop .inv) (sym (c .before .before .before .next .ensures) ∙ c .before .enum-told2 .given .1) (c .conclude .ensures)
 
 pub read-spec : {M : Type 1} → statement M
 read-spec =
