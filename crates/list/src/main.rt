@@ -1,14 +1,14 @@
 // Lists the container on standard input: a line for each object, or `refused` and the number of the bar.
 use libc::STDIN_FILENO;
 use libc::STDOUT_FILENO;
-use wire::Listed;
+use listing::Listed;
 
 // A container has 257 bytes at most: 258 bytes that begin an input say as much as all of it.
 fn main() {
     let mut input = [0u8; 258];
     let mut text = [0u8; 1100];
     let n = io::read_full(STDIN_FILENO, &mut input);
-    match wire::list(&input[..n], &mut text) {
+    match listing::list(&input[..n], &mut text) {
         Listed::Text(size) => {
             io::write_all(STDOUT_FILENO, &text[..size]);
         }

@@ -8,6 +8,3 @@ pub mod SeenLaws
 pub mod GatherLaws
 pub mod HopLaws
 pub mod ReadLaws
-pub mod PutLaws
-pub mod LineLaws
-pub mod ListingLaws

@@ -3,4 +3,3 @@ pub mod Row
 pub mod Seen
 pub mod Gathered
 pub mod Reading
-pub mod Listed

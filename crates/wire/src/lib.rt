@@ -1,16 +1,13 @@
-// From bytes to objects: the step over a container's objects, the table of the types, bars 13 to 17, and the listing.
+// From bytes to objects: the step over a container's objects, the table of the types, and bars 13 to 17.
 mod bars;
 mod bodies;
 mod container;
-mod listing;
 mod objects;
 mod seen;
 mod table;
 
 pub use container::Reading;
 pub use container::read;
-pub use listing::Listed;
-pub use listing::list;
 pub use objects::Cursor;
 pub use objects::Header;
 pub use objects::Step;

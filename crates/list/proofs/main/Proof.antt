@@ -1,4 +1,4 @@
-use Rattle.wire.proofs.ListingLaws.{listed-inside}
+use Rattle.listing.proofs.ListingLaws.{listed-inside}
 use lib.Seq.{length-take-le}
 use mathlib.Core.Path.{sym}
 use borrow.Author.Needs.{needs}

@@ -10,8 +10,8 @@ use lib.Seq.{sets, length-sets}
 use lib.Dec.{ltb}
 use borrow.Author.Tests.{ltb-false}
 use Rattle.model.specs.Listing.{space, digit, decimal, line}
-use Rattle.wire.specs.declared.listing.Listed.the-variants.{Text}
-use Rattle.wire.specs.Listed.{Put, numberAnd}
+use Rattle.listing.specs.declared.Listed.the-variants.{Text}
+use Rattle.listing.specs.Listed.{Put, numberAnd}
 
 -- ---- one text behind another
 

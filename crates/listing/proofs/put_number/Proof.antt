@@ -6,8 +6,8 @@ use lib.ListN.{length-set}
 use borrow.Author.Needs.{needs}
 use borrow.Author.Tests.{lt-ltb, le-ltb}
 use Rattle.model.specs.Listing.{decimal}
-use Rattle.wire.proofs.listing.put_number.Statement.{statement}
-use Rattle.wire.proofs.listing.put_number.Tie as tie
+use Rattle.listing.proofs.put_number.Statement.{statement}
+use Rattle.listing.proofs.put_number.Tie as tie
 
 add-out : tie.Need-add-out
 add-out c = search needs

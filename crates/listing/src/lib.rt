@@ -7,12 +7,10 @@ ghost use lib.ListN.{length};
 ghost use Rattle.model.specs.Object.{Object};
 ghost use Rattle.model.specs.Reading.{dataObjects};
 ghost use Rattle.model.specs.Listing.{line, objectLines, refusedWord};
-ghost use Rattle.wire.specs.Listed.{textRoom, listed, listedIn, Put, numberAnd, headerLine};
-use crate::container;
-use crate::container::Reading;
-use crate::objects;
-use crate::objects::Header;
-use crate::objects::Step;
+ghost use Rattle.listing.specs.Listed.{textRoom, listed, listedIn, Put, numberAnd, headerLine};
+use wire::Header;
+use wire::Reading;
+use wire::Step;
 
 // Bytes that hold the text of any container.
 const TEXT_ROOM: usize = 1100;
@@ -66,10 +64,10 @@ fn put_lines(container: &[u8], out: &mut [u8]) -> usize
     requires { ⌜ textRoom ≤ length (now out) ⌝ }
     ensures { λ r. ⌜ ((os : List Object) → dataObjects (now (container .entry)) ≡ some os → Put (now (out .entry)) 0 (objectLines os) r (now (out .exit))) ⌝ }
 {
-    let mut place = objects::first();
+    let mut place = wire::first();
     let mut used = 0;
     loop {
-        match objects::next(container, place) {
+        match wire::next(container, place) {
             Step::Found {
                 header,
                 start,
@@ -113,7 +111,7 @@ pub fn list(container: &[u8], out: &mut [u8]) -> Listed
     if out.len() < TEXT_ROOM {
         return Listed::ShortOutput;
     }
-    match container::read(container) {
+    match wire::read(container) {
         Reading::Refused { number, place: _ } => Listed::Text(put_refused(out, number)),
         Reading::WellFormed {
             count: _,

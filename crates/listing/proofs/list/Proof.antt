@@ -3,10 +3,10 @@ use mathlib.Core.Path.{refl, sym, _∙_}
 use native.Mathlib.Omega.{arith}
 use borrow.Author.Needs.{needs}
 use borrow.Author.Tests.{lt-ltb}
-use Rattle.wire.specs.Listed.{listed, listedIn}
-use Rattle.wire.proofs.ListingLaws.{well-short, well-text, refused-text, listed-by}
-use Rattle.wire.proofs.listing.list.Statement.{statement}
-use Rattle.wire.proofs.listing.list.Tie as tie
+use Rattle.listing.specs.Listed.{listed, listedIn}
+use Rattle.listing.proofs.ListingLaws.{well-short, well-text, refused-text, listed-by}
+use Rattle.listing.proofs.list.Statement.{statement}
+use Rattle.listing.proofs.list.Tie as tie
 
 returns : tie.Need-returns
 unfolding listed listedIn

@@ -3,8 +3,8 @@ use mathlib.Core.Path.{_∙_}
 use native.Mathlib.Omega.{arith}
 use lib.ListN.{length-set}
 use borrow.Author.Needs.{needs}
-use Rattle.wire.proofs.listing.put_refused.Statement.{statement}
-use Rattle.wire.proofs.listing.put_refused.Tie as tie
+use Rattle.listing.proofs.put_refused.Statement.{statement}
+use Rattle.listing.proofs.put_refused.Tie as tie
 
 slice-write-out : tie.Need-slice-write-out
 slice-write-out c = search needs

@@ -8,9 +8,9 @@ use lib.Seq.{sets}
 use lib.Dec.{ltb}
 use Rattle.model.specs.RoundTrip.{Bytes}
 use Rattle.model.specs.Listing.{decimal, line, listing}
 use Rattle.wire.specs.declared.objects.Header.{Header}
-use Rattle.wire.specs.declared.listing.Listed.{Listed}
-use Rattle.wire.specs.declared.listing.Listed.the-variants.{Text, ShortOutput}
+use Rattle.listing.specs.declared.Listed.{Listed}
+use Rattle.listing.specs.declared.Listed.the-variants.{Text, ShortOutput}
 
 -- the length of output that holds the text of any container
 abbrev pub textRoom : ℕ

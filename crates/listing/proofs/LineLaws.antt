@@ -9,13 +9,13 @@ use lib.Seq.{length-take-le}
 use Rattle.model.specs.Object.{Object, join, bitC, bitO, bitR, fieldA, fieldPrec}
 use Rattle.model.specs.Reading.{dataObjects}
 use Rattle.model.specs.Listing.{line, objectLine, objectLines}
 use Rattle.wire.specs.declared.objects.Header.{Header}
 use Rattle.wire.specs.declared.objects.Cursor.{Cursor}
 use Rattle.wire.specs.declared.objects.Step.the-variants.{Found, CutShort, End}
 use Rattle.wire.specs.Step.{firstPlace, stepAt, objectIn}
-use Rattle.wire.specs.Listed.{textRoom, Put, headerLine}
+use Rattle.listing.specs.Listed.{textRoom, Put, headerLine}
 use Rattle.wire.proofs.WalkLaws.{Walked, found, walk-first, walk-found, walk-end, walk-short, walk-room}
-use Rattle.wire.proofs.PutLaws.{put-append, put-length, digits}
+use Rattle.listing.proofs.PutLaws.{put-append, put-length, digits}
 
 -- ---- how long they are
 

@@ -1,9 +1,9 @@
 -- `put_line` meets its contract: seven numbers, one behind the other, each of four bytes at most.
 use native.Mathlib.Omega.{arith}
 use borrow.Author.Needs.{needs}
-use Rattle.wire.proofs.PutLaws.{put-before, put-short}
-use Rattle.wire.proofs.listing.put_line.Statement.{statement}
-use Rattle.wire.proofs.listing.put_line.Tie as tie
+use Rattle.listing.proofs.PutLaws.{put-before, put-short}
+use Rattle.listing.proofs.put_line.Statement.{statement}
+use Rattle.listing.proofs.put_line.Tie as tie
 
 put-number-requires : tie.Need-put-number-requires
 put-number-requires c κs = search needs

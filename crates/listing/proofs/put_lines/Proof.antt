@@ -3,11 +3,11 @@ use mathlib.Core.Path.{sym, _∙_}
 use Prim.Native.Nat.{_-_}
 use lib.ListN.{length}
 use borrow.Author.Needs.{needs}
-use Rattle.wire.proofs.PutLaws.{put-length}
-use Rattle.wire.proofs.LineLaws.{Lines, lines-first, lines-found, lines-fit, lines-end, lines-cut}
+use Rattle.listing.proofs.PutLaws.{put-length}
+use Rattle.listing.proofs.LineLaws.{Lines, lines-first, lines-found, lines-fit, lines-end, lines-cut}
 use Rattle.wire.proofs.WalkLaws.{step-inside}
-use Rattle.wire.proofs.listing.put_lines.Statement.{statement}
-use Rattle.wire.proofs.listing.put_lines.Tie as tie
+use Rattle.listing.proofs.put_lines.Statement.{statement}
+use Rattle.listing.proofs.put_lines.Tie as tie
 
 abbrev Inv-loop : tie.InvT-loop
 Inv-loop container out₀ place₀ used₀ out place used = Lines container out₀ place used out

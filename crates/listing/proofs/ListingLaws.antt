@@ -19,13 +19,13 @@ use Rattle.model.specs.RoundTrip.{Bytes}
 use Rattle.model.specs.Listing.{newline, decimal, line, objectLines, refusedWord, listingOf, listing}
 use Rattle.model.proofs.BoolLaws.{neither}
 use Rattle.model.proofs.ReadingLaws.{reading-objects}
 use Rattle.wire.specs.declared.container.Reading.the-variants.{Refused, WellFormed}
-use Rattle.wire.specs.declared.listing.Listed.{Listed}
-use Rattle.wire.specs.declared.listing.Listed.the-variants.{Text, ShortOutput}
+use Rattle.listing.specs.declared.Listed.{Listed}
+use Rattle.listing.specs.declared.Listed.the-variants.{Text, ShortOutput}
 use Rattle.wire.specs.Reading.{told}
-use Rattle.wire.specs.Listed.{textRoom, listed, listedIn, TextFits, FrontTells, Put}
-use Rattle.wire.proofs.PutLaws.{digits}
-use Rattle.wire.proofs.LineLaws.{lines-room}
+use Rattle.listing.specs.Listed.{textRoom, listed, listedIn, TextFits, FrontTells, Put}
+use Rattle.listing.proofs.PutLaws.{digits}
+use Rattle.listing.proofs.LineLaws.{lines-room}
 
 -- byte 1 of a well-formed container is the length of its data
 data-short : (bs : List ℕ) (os : List Object) → reading bs ≡ model.wellFormed os → getD bs 1 0 ≤ 255 → (length (join os) ≤ 255) × (length bs ≤ 257)
