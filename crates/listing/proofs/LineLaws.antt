@@ -14,7 +14,8 @@ use Rattle.wire.specs.declared.objects.Cursor.{Cursor}
 use Rattle.wire.specs.declared.objects.Step.the-variants.{Found, CutShort, End}
 use Rattle.wire.specs.Step.{firstPlace, stepAt, objectIn}
 use Rattle.listing.specs.Listed.{textRoom, Put, headerLine}
-use Rattle.wire.proofs.WalkLaws.{Walked, found, walk-first, walk-found, walk-end, walk-short, walk-room}
+use Rattle.wire.proofs.StepLaws.{step-inside}
+use Rattle.wire.proofs.WalkLaws.{Walked, walk-first, walk-found, walk-end, walk-short, walk-room}
 use Rattle.listing.proofs.PutLaws.{put-append, put-length, digits}
 
 -- ---- how long they are
@@ -60,9 +61,9 @@ lines-first bs output = record { earlier = []; walked = walk-first bs; put = rec
 pub lines-found : {bs output left more : List ℕ} {p n : Cursor} {used behind : ℕ} {h : Header} {start end : ℕ} → Lines bs output p used left
     → stepAt bs p ≡ Found h start end n → Put left used (headerLine h (end - start)) behind more → Lines bs output n behind more
 lines-found {bs} {output} {left} {more} {p} {n} {used} {behind} {h} {start} {end} w e q =
-    let f = found bs p e in
+    let f = step-inside bs p e in
     let o = objectIn bs h start end in
-    let one : Put left used (objectLine o) behind more = rw (line-found bs h start end (omega (arith, f .end-at)) (f .within)) q in
+    let one : Put left used (objectLine o) behind more = rw (line-found bs h start end (f .0) (f .1 .0)) q in
     record {
       earlier = w .earlier ++ (o ∷ []);
       walked = walk-found bs p (w .earlier) (w .walked) e;

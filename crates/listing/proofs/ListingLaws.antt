@@ -11,13 +11,12 @@ use lib.Seq.{sets-eq, take-all, getD-take, length-take-le}
 use lib.Dec.{ltb, eqb}
 use borrow.Author.Tests.{le-ltb, ltb-true, ltb-false, ne-eqb}
 use Rattle.model.specs.declared.Summary.{Summary}
-use Rattle.model.specs.Number.{anyOf}
 use Rattle.model.specs.Object.{Object, join}
 use Rattle.model.specs.Reading.{misframed, dataObjects, reading}
 use Rattle.model.specs.Reading as model
 use Rattle.model.specs.RoundTrip.{Bytes}
 use Rattle.model.specs.Listing.{newline, decimal, line, objectLines, refusedWord, listingOf, listing}
-use Rattle.model.proofs.BoolLaws.{neither}
+use Rattle.model.proofs.ByteLaws.{first-byte}
 use Rattle.model.proofs.ReadingLaws.{reading-objects}
 use Rattle.wire.specs.declared.container.Reading.the-variants.{Refused, WellFormed}
 use Rattle.listing.specs.declared.Listed.{Listed}
@@ -48,10 +47,7 @@ text-short bs l = go (reading bs) refl
 byte-one : (bs : List ℕ) → Bytes bs → getD bs 1 0 ≤ 255
 byte-one [] h = omega arith
 byte-one (a ∷ []) h = omega arith
-byte-one (a ∷ b ∷ bs) h =
-    let rest = anyOf (λ c. ltb 255 c) bs in
-    let (p, q) = neither (ltb 255 a) (ltb 255 b || rest) h in
-    ltb-false 255 b (neither (ltb 255 b) rest q .0)
+byte-one (a ∷ b ∷ bs) h = first-byte b bs (first-byte a (b ∷ bs) h .1) .0
 
 pub text-fits : TextFits
 text-fits bs h = text-short bs (byte-one bs h)

@@ -2,7 +2,7 @@
 use mathlib.Core.Path.{_≡_, refl, sym, subst, _∙_}
 use Prim.Native.Nat.{ℕ, zero, suc, _+_, _*_, _/_, _%_, _^_, _≤_}
 use native.Mathlib.Omega.{arith}
-use mathlib.Core.Bool.{Bool, true, false, cond, _&&_, _||_, or-assoc}
+use mathlib.Core.Bool.{Bool, true, false, cond, _&&_}
 use mathlib.Core.List.{List, [], _∷_, _++_}
 use lib.ListN.{length, take, drop, take-append-drop, length-append}
 use lib.Dec.{ltb, eqb}
@@ -18,6 +18,7 @@ use Rattle.model.specs.Verdict.{containerOf}
 use Rattle.model.specs.Update.{localValue, valueOr0, combine, onTwo, clear0, combine1, widthOf, mostOf, aggregatedBody, clear1, constraintBody, subObject, clearEach, ownEnergy, countLevel, countedBody, recordedBody, addsNothing, nextBody, nextFlags, nextMode, updateObject, update}
 use Rattle.model.specs.RoundTrip.{Bytes}
 use Rattle.model.specs.ReadBack.{PassesBytes}
+use Rattle.model.proofs.ListLaws.{any-append}
 use Rattle.model.proofs.BoolLaws.{both, neither}
 use Rattle.model.proofs.VerdictLaws.{admitted, nothing-bars, in-range}
 use Rattle.model.proofs.CallLaws.{unrefused}
@@ -30,10 +31,6 @@ use Rattle.model.proofs.ReadingLaws.{reading-objects}
 
 byte : (b : ℕ) → b ≤ 255 → ltb 255 b ≡ false
 byte b h = le-ltb 255 b h
-
-any-append : (f : ℕ → Bool) (xs ys : List ℕ) → anyOf f (xs ++ ys) ≡ anyOf f xs || anyOf f ys
-any-append f [] ys = refl
-any-append f (x ∷ xs) ys = rw (any-append f xs ys) (sym (or-assoc (f x) (anyOf f xs) (anyOf f ys)))
 
 both-bytes : (xs ys : List ℕ) → Bytes xs → Bytes ys → Bytes (xs ++ ys)
 both-bytes xs ys p q = any-append (λ b. ltb 255 b) xs ys ∙ rw (p, q)
@@ -50,7 +47,7 @@ drop-bytes n xs h = part-bytes (take n xs) (drop n xs) (rw (take-append-drop n x
 more-bytes : (b : ℕ) (bs : List ℕ) → b ≤ 255 → Bytes bs → Bytes (b ∷ bs)
 more-bytes b bs h g = rw (byte b h) g
 
-first-byte : (b : ℕ) (bs : List ℕ) → Bytes (b ∷ bs) → (b ≤ 255) × Bytes bs
+pub first-byte : (b : ℕ) (bs : List ℕ) → Bytes (b ∷ bs) → (b ≤ 255) × Bytes bs
 first-byte b bs h = let (p, q) = neither (ltb 255 b) (anyOf (λ x. ltb 255 x) bs) h in (ltb-false 255 b p, q)
 
 -- ---- bodies

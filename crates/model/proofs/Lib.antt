@@ -1,6 +1,7 @@
 pub mod BoolLaws
 pub mod NumberLaws
 pub mod ListLaws
+pub mod FirstLaws
 pub mod ObjectLaws
 pub mod ChoiceLaws
 pub mod Refusals

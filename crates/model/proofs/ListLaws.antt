@@ -1,8 +1,8 @@
--- Elements by index, through map and append.
-use mathlib.Core.Path.{_≡_, refl, _∙_}
+-- Elements of lists, through map and append.
+use mathlib.Core.Path.{_≡_, refl, sym, _∙_}
 use Prim.Native.Nat.{ℕ, zero, suc, _-_, _≤_, _<_}
 use native.Mathlib.Omega.{arith}
-use mathlib.Core.Bool.{Bool}
+use mathlib.Core.Bool.{Bool, _||_, or-assoc}
 use mathlib.Core.List.{List, [], _∷_, _++_, map}
 use mathlib.Core.Option.{some, Option·none-ne-some}
 use lib.ListN.{length, getD, getElem?, replicate, length-append, length-replicate}
@@ -42,6 +42,10 @@ getD-past (x ∷ xs) n d (suc i) h = getD-past xs n d i (omega arith)
 pub any-map : {A B : Type 0} (p : B → Bool) (f : A → B) (xs : List A) → anyOf p (map f xs) ≡ anyOf (λ x. p (f x)) xs
 any-map p f [] = refl
 any-map p f (x ∷ xs) = rw (any-map p f xs)
+
+pub any-append : {A : Type 0} (f : A → Bool) (xs ys : List A) → anyOf f (xs ++ ys) ≡ anyOf f xs || anyOf f ys
+any-append f [] ys = refl
+any-append f (x ∷ xs) ys = rw (any-append f xs ys) (sym (or-assoc (f x) (anyOf f xs) (anyOf f ys)))
 
 pub any-same : {A : Type 0} (p q : A → Bool) → ((x : A) → p x ≡ q x) → (xs : List A) → anyOf p xs ≡ anyOf q xs
 any-same p q h [] = refl

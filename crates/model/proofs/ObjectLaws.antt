@@ -1,9 +1,9 @@
--- `split` and `join` undo each other.
+-- `split` and `join` undo each other, also with bytes behind.
 use mathlib.Core.Path.{_≡_, refl}
-use Prim.Native.Nat.{ℕ, zero, suc, _≤_}
+use Prim.Native.Nat.{ℕ, zero, suc, _*_, _≤_}
 use native.Mathlib.Nat.{le-of-suc-le-suc, not-suc-le-zero}
 use mathlib.Core.Bool.{Bool, true, false, cond}
-use mathlib.Core.List.{List, [], _∷_, _++_}
+use mathlib.Core.List.{List, [], _∷_, _++_, append-assoc}
 use mathlib.Core.Option.{Option, none, some, Option·none-ne-some}
 use native.Mathlib.Omega.{arith}
 use lib.ListN.{length, take, drop, length-append, take-append-drop, length-drop}
@@ -74,3 +74,37 @@ pub split-step : (t f m n : ℕ) (rest : List ℕ)
     → split (t ∷ f ∷ m ∷ n ∷ rest) ≡ cond (leb n (length rest)) (before (object t f m (take n rest)) (split (drop n rest))) none
 unfolding split splitUpTo
 split-step t f m n rest = rw (splitUpTo-enough (suc (suc (suc (length rest)))) (length (drop n rest)) (drop n rest) (rw length-drop (omega arith)) (omega arith))
+
+-- ---- objects end to end, and bytes behind them
+
+pub join-append : (s t : List Object) → join (s ++ t) ≡ join s ++ join t
+unfolding join
+join-append [] t = refl
+join-append (o ∷ s) t = rw (join-append s t, append-assoc (o .body) (join s) (join t))
+
+-- objects before those of a run, if it has its objects whole
+abbrev pub behind : List Object → Option (List Object) → Option (List Object)
+behind s none = none
+behind s (some t) = some (s ++ t)
+
+before-behind : (o : Object) (s : List Object) (r : Option (List Object)) → before o (behind s r) ≡ behind (o ∷ s) r
+before-behind o s none = refl
+before-behind o s (some t) = refl
+
+behind-nil : (r : Option (List Object)) → r ≡ behind [] r
+behind-nil none = refl
+behind-nil (some t) = refl
+
+pub split-append : (s : List Object) (bs : List ℕ) → split (join s ++ bs) ≡ behind s (split bs)
+unfolding join
+split-append [] bs = behind-nil (split bs)
+split-append (o ∷ s) bs =
+    let fits : length (o .body) ≤ length (o .body ++ (join s ++ bs)) = simp length-append (omega arith) in
+    rw (append-assoc (o .body) (join s) bs, split-step (o .type) (o .flags) (o .mode) (length (o .body)) (o .body ++ (join s ++ bs)), le-leb (length (o .body)) (length (o .body ++ (join s ++ bs))) fits, take-append-seam (o .body) (join s ++ bs), drop-append-seam (o .body) (join s ++ bs), split-append s bs)
+    (before-behind o s (split bs))
+
+-- an object has four bytes or more
+pub join-four : (s : List Object) → 4 * length s ≤ length (join s)
+unfolding join
+join-four [] = omega arith
+join-four (o ∷ s) = let ih = join-four s in omega (arith, length-append (o .body) (join s))

@@ -1,5 +1,6 @@
 pub mod HeaderLaws
 pub mod RowLaws
+pub mod StepLaws
 pub mod WalkLaws
 pub mod TlvLaws
 pub mod BodyLaws

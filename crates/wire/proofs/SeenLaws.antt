@@ -13,6 +13,7 @@ use Rattle.model.specs.Number.{anyOf}
 use Rattle.model.specs.Object.{Object, bitC, kind, known}
 use Rattle.model.specs.Reading.{sameUse}
 use Rattle.model.proofs.BoolLaws.{both}
+use Rattle.model.proofs.ListLaws.{any-append}
 use Rattle.model.proofs.TypeLaws.{known-types}
 use Rattle.wire.specs.Seen.{useBit, hasBit, Marks}
 
@@ -68,10 +69,6 @@ use-eqb o e = go (eqb (e .type) (o .type)) (eqb (bitC e) (bitC o)) refl refl
 known-bit : (o : Object) → known (kind o) ≡ true → useBit o < 16
 known-bit o k = let (a, b) = both (leb 1 (o .type)) (leb (o .type) 7) (sym (known-types (o .type)) ∙ k) in omega (arith, leb-true (o .type) 7 b)
 
-pub any-snoc : {A : Type 0} (f : A → Bool) (xs : List A) (x : A) → anyOf f (xs ++ (x ∷ [])) ≡ anyOf f xs || f x
-any-snoc f [] x = or-false (f x)
-any-snoc f (y ∷ xs) x = rw (any-snoc f xs x) (sym (mathlib.Core.Bool.or-assoc (f y) (anyOf f xs) (f x)))
-
 -- ---- marks
 
 pub no-marks : Marks 0 []
@@ -88,10 +85,10 @@ marks-behind o k b h e l = absurd (let z = known-bit o h in omega arith)
 
 -- a bit that is set
 pub marks-with : (n : ℕ) (es : List Object) (a : Object) (k : ℕ) → Marks n es → k ≡ useBit a → k < 16 → Marks (bitOr n ((1 * 2 ^ k) % 65536)) (es ++ (a ∷ []))
-marks-with n es a k m e l o h = rw (any-snoc (sameUse o) es a, ← m o h, use-eqb o a, ← e) (bit-with n k (useBit o) l)
+marks-with n es a k m e l o h = rw (any-append (sameUse o) es (a ∷ []), or-false (sameUse o a), ← m o h, use-eqb o a, ← e) (bit-with n k (useBit o) l)
 
 -- a use that has no bit
 pub marks-past : (n : ℕ) (es : List Object) (a : Object) (k : ℕ) → Marks n es → k ≡ useBit a → 16 ≤ k → Marks n (es ++ (a ∷ []))
 marks-past n es a k m e l o h =
     let z = known-bit o h in
-    rw (any-snoc (sameUse o) es a, ← m o h, use-eqb o a, ne-eqb (useBit a) (useBit o) (λ q. omega arith)) (sym (or-false (hasBit n (useBit o))))
+    rw (any-append (sameUse o) es (a ∷ []), ← m o h, use-eqb o a, ne-eqb (useBit a) (useBit o) (λ q. omega arith)) (sym (or-false (hasBit n (useBit o))))

@@ -1,32 +1,14 @@
 -- The TLV walk as code takes it: by length, byte 1 and the rest.
 use mathlib.Core.Path.{_≡_, refl}
-use Prim.Native.Nat.{ℕ, zero, suc, _+_, _-_, _≤_, _<_}
-use native.Mathlib.Nat.{not-suc-le-zero}
+use Prim.Native.Nat.{ℕ, suc, _+_, _-_, _≤_, _<_}
 use native.Mathlib.Omega.{arith}
-use mathlib.Core.Bool.{true, false, _&&_}
+use mathlib.Core.Bool.{true, false}
 use mathlib.Core.List.{List, [], _∷_}
 use lib.ListN.{length, take, drop, getD, length-drop}
 use lib.Seq.{take-all}
-use lib.Dec.{leb}
 use borrow.Author.Tests.{le-leb, lt-leb}
 use Rattle.model.specs.Reading.{tlvsUpTo, tlvsFit}
-
--- two limits that are at least the length give the same
-tlvsUpTo-enough : (k j : ℕ) (bs : List ℕ) → length bs ≤ k → length bs ≤ j → tlvsUpTo k bs ≡ tlvsUpTo j bs
-unfolding tlvsUpTo
-tlvsUpTo-enough zero zero bs h i = refl
-tlvsUpTo-enough zero (suc j) [] h i = refl
-tlvsUpTo-enough zero (suc j) (t ∷ bs) h i = absurd (not-suc-le-zero h)
-tlvsUpTo-enough (suc k) zero [] h i = refl
-tlvsUpTo-enough (suc k) zero (t ∷ bs) h i = absurd (not-suc-le-zero i)
-tlvsUpTo-enough (suc k) (suc j) [] h i = refl
-tlvsUpTo-enough (suc k) (suc j) (t ∷ []) h i = refl
-tlvsUpTo-enough (suc k) (suc j) (t ∷ n ∷ rest) h i = rw (tlvsUpTo-enough k j (drop n rest) (rw length-drop (omega arith)) (rw length-drop (omega arith)))
-
--- `tlvsFit` unfolded at a TLV
-tlvs-step : (t n : ℕ) (bs : List ℕ) → tlvsFit (t ∷ n ∷ bs) ≡ leb n (length bs) && tlvsFit (drop n bs)
-unfolding tlvsFit tlvsUpTo
-tlvs-step t n bs = rw (tlvsUpTo-enough (suc (length bs)) (length (drop n bs)) (drop n bs) (rw length-drop (omega arith)) (omega arith))
+use Rattle.model.proofs.TlvLaws.{tlvs-step}
 
 -- no bytes are no TLVs
 pub tlvs-empty : (s : List ℕ) → length s ≡ 0 → true ≡ tlvsFit s

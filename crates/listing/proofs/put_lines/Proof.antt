@@ -5,7 +5,7 @@ use lib.ListN.{length}
 use borrow.Author.Needs.{needs}
 use Rattle.listing.proofs.PutLaws.{put-length}
 use Rattle.listing.proofs.LineLaws.{Lines, lines-first, lines-found, lines-fit, lines-end, lines-cut}
-use Rattle.wire.proofs.WalkLaws.{step-inside}
+use Rattle.wire.proofs.StepLaws.{step-inside}
 use Rattle.listing.proofs.put_lines.Statement.{statement}
 use Rattle.listing.proofs.put_lines.Tie as tie
 

@@ -1,4 +1,4 @@
-use Rattle.wire.proofs.WalkLaws.{step-inside}
+use Rattle.wire.proofs.StepLaws.{step-inside}
 use Rattle.wire.proofs.ReadLaws.{Pass, pass-first, pass-found, pass-place, read-13, read-14, read-whole}
 use Prim.Native.Nat.{_-_}
 use mathlib.Core.Path.{sym, _∙_}
