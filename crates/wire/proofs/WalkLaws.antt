@@ -5,7 +5,7 @@ use native.Mathlib.Nat.{not-suc-le-zero}
 use native.Mathlib.Omega.{arith}
 use mathlib.Core.List.{List, [], _∷_, _++_, append-assoc, append-nil}
 use mathlib.Core.Option.{Option, none, some, Option·none-ne-some}
-use lib.ListN.{length, take, drop, length-append, length-drop}
+use lib.ListN.{length, drop, length-append, length-drop}
 use Rattle.model.specs.Object.{Object, object, before, split, join, bytesOf}
 use Rattle.model.specs.Reading.{dataObjects}
 use Rattle.model.proofs.ObjectLaws.{behind, split-append, join-append, join-four}
@@ -30,7 +30,10 @@ so-far bs p es w = ap split (w .here) ∙ split-append es (drop (p .at) bs)
 pub walk-found : (bs : List ℕ) (p : Cursor) (es : List Object) {h : Header} {start end : ℕ} {n : Cursor} → Walked bs p es
     → stepAt bs p ≡ Found h start end n → Walked bs n (es ++ (objectIn bs h start end ∷ []))
 unfolding join
-walk-found bs p es {h} {start} {end} {n} w e = record { here = w .here ∙ sym (rw (join-append es (objectIn bs h start end ∷ []), append-nil (take (end - start) (drop start bs)), append-assoc (join es) (bytesOf (objectIn bs h start end)) (drop (n .at) bs), bytes-at bs p e)) }
+walk-found bs p es {h} {start} {end} {n} w e =
+    let o = objectIn bs h start end in
+    let one : join (es ++ (o ∷ [])) ≡ join es ++ bytesOf o = rw (join-append es (o ∷ []), append-nil (o .body)) in
+    record { here = w .here ∙ sym (rw (one, append-assoc (join es) (bytesOf o) (drop (n .at) bs), bytes-at bs p e)) }
 
 pub walk-end : (bs : List ℕ) (p : Cursor) (es : List Object) → Walked bs p es → stepAt bs p ≡ End → dataObjects bs ≡ some es
 walk-end bs p es w e = so-far bs p es w ∙ rw (split-end bs p e) (ap some (append-nil es))

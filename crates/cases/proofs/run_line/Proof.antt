@@ -4,51 +4,39 @@ use borrow.Author.Needs.{needs}
 use Rattle.cases.proofs.run_line.Statement.{statement}
 use Rattle.cases.proofs.run_line.Tie as tie
 
--- src/main.rt:102:9
 find-requires : tie.Need-find-requires
 find-requires c κs = search needs
 
--- src/main.rt:103:9
 slice-aggregate-say : tie.Need-slice-aggregate-say
 slice-aggregate-say c = sym (length-take-le _ _ (c .before .find .ensures .1))
 
--- src/main.rt:103:5
 say-requires : tie.Need-say-requires
 say-requires c κs = search needs
 
--- src/main.rt:104:19
 sub-parse : tie.Need-sub-parse
 sub-parse c = search needs
 
--- src/main.rt:104:19
 part-parse-start : tie.Need-part-parse-start
 part-parse-start c = search needs
 
--- src/main.rt:104:19
 part-parse-end : tie.Need-part-parse-end
 part-parse-end c = search needs
 
--- src/main.rt:104:35
 slice-aggregate-parse : tie.Need-slice-aggregate-parse
 slice-aggregate-parse c = search needs
 
--- src/main.rt:104:9
 parse-requires : tie.Need-parse-requires
 parse-requires c κs = search needs
 
--- src/main.rt:105:17
 array-share-prefix-bytes : tie.Need-array-share-prefix-bytes
 array-share-prefix-bytes c = search needs
 
--- src/main.rt:105:17
 slice-aggregate-say-reading : tie.Need-slice-aggregate-say-reading
 slice-aggregate-say-reading c = sym (length-take-le _ _ (c .before .before .parse .ensures))
 
--- src/main.rt:105:5
 say-reading-requires : tie.Need-say-reading-requires
 say-reading-requires c κs = search needs
 
--- src/main.rt:100:1
 returns : tie.Need-returns
 returns c = search needs
 

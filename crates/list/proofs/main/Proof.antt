@@ -5,58 +5,46 @@ use borrow.Author.Needs.{needs}
 use Rattle.list.proofs.main.Statement.{statement}
 use Rattle.list.proofs.main.Tie as tie
 
--- src/main.rt:10:41
 slice-aggregate-read-full : tie.Need-slice-aggregate-read-full
 slice-aggregate-read-full c = search needs
 
--- src/main.rt:10:9
 read-full-requires : tie.Need-read-full-requires
 read-full-requires c κs = search needs
 
--- src/main.rt:11:22
 array-share-prefix-input : tie.Need-array-share-prefix-input
 array-share-prefix-input c = search needs
 
--- src/main.rt:11:22
 slice-aggregate-list : tie.Need-slice-aggregate-list
 slice-aggregate-list c = search needs
 
--- src/main.rt:11:35
 slice-aggregate-list-2 : tie.Need-slice-aggregate-list-2
 slice-aggregate-list-2 c = search needs
 
--- src/main.rt:11:11
 list-requires : tie.Need-list-requires
 list-requires c κs = search needs
 
--- src/main.rt:12:22
 enum-known-size : tie.Need-enum-known-size
 enum-known-size c = search needs
 
--- src/main.rt:13:42
 array-share-prefix-text : tie.Need-array-share-prefix-text
 array-share-prefix-text c =
     let told = c .before .before .before .before .list .ensures in
     listed-inside _ _ _ (told .0) (c .before .size .given .1) (told .1)
 
--- src/main.rt:13:42
 slice-aggregate-write-all : tie.Need-slice-aggregate-write-all
 slice-aggregate-write-all c =
     let told = c .before .before .before .before .before .list .ensures in
     sym (length-take-le _ _ (listed-inside _ _ _ (told .0) (c .before .before .size .given .1) (told .1)))
 
--- src/main.rt:13:13
 write-all-requires : tie.Need-write-all-requires
 write-all-requires c κs = search needs
 
 enum-told : tie.Need-enum-told
 enum-told c = search needs
 
--- src/main.rt:7:1
 returns : tie.Need-returns
 returns c = search needs
 
--- src/main.rt:7:1
 returns-2 : tie.Need-returns-2
 returns-2 c = search needs
 

@@ -4,25 +4,24 @@ use borrow.Author.Needs.{needs}
 use Rattle.wire.proofs.bars.is_shaped.Statement.{statement}
 use Rattle.wire.proofs.bars.is_shaped.Tie as tie
 
--- src/bars.rt:33:8
 is-recorded-requires : tie.Need-is-recorded-requires
 is-recorded-requires c κs = search needs
 
--- src/bars.rt:34:9
 is-series-requires : tie.Need-is-series-requires
 is-series-requires c κs = search needs
 
--- src/bars.rt:34:9
 returns : tie.Need-returns
-returns c = c .is-series .ensures ∙ shaped-recorded (c .before .before .before .before .args .header) (c .before .before .before .before .args .body .now) (sym (c .before .before .is-recorded .ensures) ∙ c .before .if1 .taken)
+returns c =
+    let args = c .before .before .before .before .args in
+    c .is-series .ensures ∙ shaped-recorded (args .header) (args .body .now) (sym (c .before .before .is-recorded .ensures) ∙ c .before .if1 .taken)
 
--- src/bars.rt:36:5
 is-fixed-requires : tie.Need-is-fixed-requires
 is-fixed-requires c κs = search needs
 
--- src/bars.rt:30:1
 returns-2 : tie.Need-returns-2
-returns-2 c = c .is-fixed .ensures ∙ shaped-fixed (c .before .before .before .before .args .header) (c .before .before .before .before .args .body .now) (sym (c .before .before .is-recorded .ensures) ∙ c .before .if1 .left)
+returns-2 c =
+    let args = c .before .before .before .before .args in
+    c .is-fixed .ensures ∙ shaped-fixed (args .header) (args .body .now) (sym (c .before .before .is-recorded .ensures) ∙ c .before .if1 .left)
 
 pub is-shaped-spec : {M : Type 1} → statement M
 is-shaped-spec =

@@ -7,41 +7,56 @@ use borrow.Author.Needs.{needs}
 use Rattle.wire.proofs.bars.object_bar.Statement.{statement}
 use Rattle.wire.proofs.bars.object_bar.Tie as tie
 
--- src/bars.rt:44:9
 is-known-requires : tie.Need-is-known-requires
 is-known-requires c κs = search needs
 
--- src/bars.rt:45:9
 returns : tie.Need-returns
-returns c = λ es s. bar-unknown es (objectOf (c .before .before .before .args .header) (c .before .before .before .args .body .now)) (sym (c .before .is-known .ensures) ∙ not-true _ (c .if1 .taken))
+returns c = λ es s.
+    let args = c .before .before .before .args in
+    bar-unknown es (objectOf (args .header) (args .body .now)) (sym (c .before .is-known .ensures) ∙ not-true _ (c .if1 .taken))
 
--- src/bars.rt:47:8
 is-misused-requires : tie.Need-is-misused-requires
 is-misused-requires c κs = search needs
 
--- src/bars.rt:49:13
 returns-2 : tie.Need-returns-2
-returns-2 c = λ es s. let k = sym (c .before .before .before .before .is-known .ensures) ∙ not-false _ (c .before .before .before .if1 .left) in bar-misused es (objectOf (c .before .before .before .before .before .before .args .header) (c .before .before .before .before .before .before .args .body .now)) true k (sym (c .before .before .is-misused .ensures) ∙ c .before .if2 .taken) (sym (c .if3 .taken) ∙ s k)
+returns-2 c = λ es s.
+    let tested = c .before .before in
+    let args = tested .before .before .before .before .args in
+    let k = sym (tested .before .before .is-known .ensures) ∙ not-false _ (tested .before .if1 .left) in
+    bar-misused es (objectOf (args .header) (args .body .now)) true k (sym (tested .is-misused .ensures) ∙ c .before .if2 .taken) (sym (c .if3 .taken) ∙ s k)
 
--- src/bars.rt:51:9
 returns-3 : tie.Need-returns-3
-returns-3 c = λ es s. let k = sym (c .before .before .before .before .is-known .ensures) ∙ not-false _ (c .before .before .before .if1 .left) in bar-misused es (objectOf (c .before .before .before .before .before .before .args .header) (c .before .before .before .before .before .before .args .body .now)) false k (sym (c .before .before .is-misused .ensures) ∙ c .before .if2 .taken) (sym (c .if3 .left) ∙ s k)
+returns-3 c = λ es s.
+    let tested = c .before .before in
+    let args = tested .before .before .before .before .args in
+    let k = sym (tested .before .before .is-known .ensures) ∙ not-false _ (tested .before .if1 .left) in
+    bar-misused es (objectOf (args .header) (args .body .now)) false k (sym (tested .is-misused .ensures) ∙ c .before .if2 .taken) (sym (c .if3 .left) ∙ s k)
 
--- src/bars.rt:53:9
 is-shaped-requires : tie.Need-is-shaped-requires
 is-shaped-requires c κs = search needs
 
--- src/bars.rt:54:9
 returns-4 : tie.Need-returns-4
-returns-4 c = λ es s. bar-malformed es (objectOf (c .before .before .before .before .before .before .before .args .header) (c .before .before .before .before .before .before .before .args .body .now)) (sym (c .before .before .before .before .before .is-known .ensures) ∙ not-false _ (c .before .before .before .before .if1 .left)) (sym (c .before .before .before .is-misused .ensures) ∙ c .before .before .if2 .left) (sym (c .before .is-shaped .ensures) ∙ not-true _ (c .if4 .taken))
+returns-4 c = λ es s.
+    let tested = c .before .before .before in
+    let args = tested .before .before .before .before .args in
+    let k = sym (tested .before .before .is-known .ensures) ∙ not-false _ (tested .before .if1 .left) in
+    bar-malformed es (objectOf (args .header) (args .body .now)) k (sym (tested .is-misused .ensures) ∙ c .before .before .if2 .left) (sym (c .before .is-shaped .ensures) ∙ not-true _ (c .if4 .taken))
 
--- src/bars.rt:57:9
 returns-5 : tie.Need-returns-5
-returns-5 c = λ es s. let k = sym (c .before .before .before .before .before .before .is-known .ensures) ∙ not-false _ (c .before .before .before .before .before .if1 .left) in bar-shaped es (objectOf (c .before .before .before .before .before .before .before .before .args .header) (c .before .before .before .before .before .before .before .before .args .body .now)) true k (sym (c .before .before .before .before .is-misused .ensures) ∙ c .before .before .before .if2 .left) (sym (c .before .before .is-shaped .ensures) ∙ not-false _ (c .before .if4 .left)) (sym (c .if5 .taken) ∙ s k)
+returns-5 c = λ es s.
+    let tested = c .before .before .before .before in
+    let args = tested .before .before .before .before .args in
+    let k = sym (tested .before .before .is-known .ensures) ∙ not-false _ (tested .before .if1 .left) in
+    bar-shaped es (objectOf (args .header) (args .body .now)) true k (sym (tested .is-misused .ensures) ∙ c .before .before .before .if2 .left)
+    (sym (c .before .before .is-shaped .ensures) ∙ not-false _ (c .before .if4 .left)) (sym (c .if5 .taken) ∙ s k)
 
--- src/bars.rt:40:1
 returns-6 : tie.Need-returns-6
-returns-6 c = λ es s. let k = sym (c .before .before .before .before .before .before .is-known .ensures) ∙ not-false _ (c .before .before .before .before .before .if1 .left) in bar-shaped es (objectOf (c .before .before .before .before .before .before .before .before .args .header) (c .before .before .before .before .before .before .before .before .args .body .now)) false k (sym (c .before .before .before .before .is-misused .ensures) ∙ c .before .before .before .if2 .left) (sym (c .before .before .is-shaped .ensures) ∙ not-false _ (c .before .if4 .left)) (sym (c .if5 .left) ∙ s k)
+returns-6 c = λ es s.
+    let tested = c .before .before .before .before in
+    let args = tested .before .before .before .before .args in
+    let k = sym (tested .before .before .is-known .ensures) ∙ not-false _ (tested .before .if1 .left) in
+    bar-shaped es (objectOf (args .header) (args .body .now)) false k (sym (tested .is-misused .ensures) ∙ c .before .before .before .if2 .left)
+    (sym (c .before .before .is-shaped .ensures) ∙ not-false _ (c .before .if4 .left)) (sym (c .if5 .left) ∙ s k)
 
 pub object-bar-spec : {M : Type 1} → statement M
 object-bar-spec =

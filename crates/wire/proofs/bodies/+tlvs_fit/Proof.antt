@@ -22,71 +22,60 @@ abbrev tlvs-fit-below : ℕ → In 1 tlvs-fit-kinds.ps
 tlvs-fit-below t =
     and 1 tlvs-fit-kinds.ps (falls 1 tlvs-fit-kinds.ps _<_ μ-tlvs-fit t) tlvs-fit.Pre
 
--- src/bodies.rt:14:9
 tlvs-fit-returns :
     (t : ℕ) →
     tlvs-fit-lts.Need-returns (tlvs-fit-below t, tlvs-fit.Post) (tlvs-fit-at t) tlvs-fit.Post
 tlvs-fit-returns t c = tlvs-empty (c .before .before .args .tlvs .now) (c .if1 .taken)
 
--- src/bodies.rt:17:9
 tlvs-fit-returns-2 :
     (t : ℕ) →
     tlvs-fit-lts.Need-returns-2 (tlvs-fit-below t, tlvs-fit.Post) (tlvs-fit-at t) tlvs-fit.Post
 tlvs-fit-returns-2 t c = tlvs-lone (c .before .before .before .args .tlvs .now) (c .before .if1 .left) (c .if2 .taken)
 
--- src/bodies.rt:19:16
 tlvs-fit-shared-slice-read-size : (t : ℕ) → tlvs-fit-lts.Need-shared-slice-read-size (
   tlvs-fit-below t,
   tlvs-fit.Post,
 ) (tlvs-fit-at t) tlvs-fit.Post
 tlvs-fit-shared-slice-read-size t c = search needs
 
--- src/bodies.rt:19:16
 tlvs-fit-cast-size :
     (t : ℕ) →
     tlvs-fit-lts.Need-cast-size (tlvs-fit-below t, tlvs-fit.Post) (tlvs-fit-at t) tlvs-fit.Post
 tlvs-fit-cast-size t c = omega (arith, c .shared-slice-known2 .given 1)
 
--- src/bodies.rt:21:9
 tlvs-fit-returns-3 :
     (t : ℕ) →
     tlvs-fit-lts.Need-returns-3 (tlvs-fit-below t, tlvs-fit.Post) (tlvs-fit-at t) tlvs-fit.Post
 tlvs-fit-returns-3 t c = tlvs-over (c .before .before .before .before .before .args .tlvs .now) (c .before .before .if2 .left) (c .if3 .taken)
 
--- src/bodies.rt:23:16
 tlvs-fit-add-from :
     (t : ℕ) →
     tlvs-fit-lts.Need-add-from (tlvs-fit-below t, tlvs-fit.Post) (tlvs-fit-at t) tlvs-fit.Post
 tlvs-fit-add-from t c = search needs
 
--- src/bodies.rt:24:14
 tlvs-fit-sub-tlvs-fit :
     (t : ℕ) →
     tlvs-fit-lts.Need-sub-tlvs-fit (tlvs-fit-below t, tlvs-fit.Post) (tlvs-fit-at t) tlvs-fit.Post
 tlvs-fit-sub-tlvs-fit t c = search needs
 
--- src/bodies.rt:24:14
 tlvs-fit-part-tlvs-fit-start : (t : ℕ) → tlvs-fit-lts.Need-part-tlvs-fit-start (
   tlvs-fit-below t,
   tlvs-fit.Post,
 ) (tlvs-fit-at t) tlvs-fit.Post
 tlvs-fit-part-tlvs-fit-start t c = search needs
 
--- src/bodies.rt:24:14
 tlvs-fit-part-tlvs-fit-end : (t : ℕ) → tlvs-fit-lts.Need-part-tlvs-fit-end (
   tlvs-fit-below t,
   tlvs-fit.Post,
 ) (tlvs-fit-at t) tlvs-fit.Post
 tlvs-fit-part-tlvs-fit-end t c = search needs
 
--- src/bodies.rt:24:5
 tlvs-fit-tlvs-fit-requires : (t : ℕ) → tlvs-fit-lts.Need-tlvs-fit-requires (
   tlvs-fit-below t,
   tlvs-fit.Post,
 ) (tlvs-fit-at t) tlvs-fit.Post
 tlvs-fit-tlvs-fit-requires t c κs = (simp (length-take, length-drop) (omega (arith, c .before .before .before .before .before .before .pre .0)), tt)
 
--- src/bodies.rt:9:1
 tlvs-fit-returns-4 :
     (t : ℕ) →
     tlvs-fit-lts.Need-returns-4 (tlvs-fit-below t, tlvs-fit.Post) (tlvs-fit-at t) tlvs-fit.Post

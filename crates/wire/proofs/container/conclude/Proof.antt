@@ -2,11 +2,9 @@ use Rattle.wire.proofs.GatherLaws.{gathers-refused, gathers-whole}
 use Rattle.wire.proofs.container.conclude.Statement.{statement}
 use Rattle.wire.proofs.container.conclude.Tie as tie
 
--- src/container.rt:98:9
 returns : tie.Need-returns
 returns c = λ os w. gathers-refused _ os w (c .if1 .taken)
 
--- src/container.rt:93:1
 returns-2 : tie.Need-returns-2
 returns-2 c = λ os w. gathers-whole _ os w (c .if1 .left)
 

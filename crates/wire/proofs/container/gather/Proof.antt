@@ -5,37 +5,42 @@ use borrow.Author.Needs.{needs}
 use Rattle.wire.proofs.container.gather.Statement.{statement}
 use Rattle.wire.proofs.container.gather.Tie as tie
 
--- src/container.rt:72:9
 returns : tie.Need-returns
-returns c = λ es w. gathers-kept _ es (objectOf (c .before .before .before .args .header) (c .before .before .before .args .body .now)) w (c .if1 .taken)
+returns c = λ es w.
+    let args = c .before .before .before .args in
+    gathers-kept _ es (objectOf (args .header) (args .body .now)) w (c .if1 .taken)
 
--- src/container.rt:74:49
 has-requires : tie.Need-has-requires
 has-requires c κs = search needs
 
--- src/container.rt:74:9
 object-bar-requires : tie.Need-object-bar-requires
 object-bar-requires c κs = search needs
 
--- src/container.rt:77:9
 returns-2 : tie.Need-returns-2
-returns-2 c = λ es w. gathers-bar _ es (objectOf (c .before .before .before .before .before .before .args .header) (c .before .before .before .before .before .before .args .body .now)) w _ (c .before .before .before .if1 .left) (c .before .object-bar .ensures es (λ k. c .before .before .has .ensures es (w .seen (c .before .before .before .if1 .left)) k)) (c .if2 .taken)
+returns-2 c = λ es w.
+    let clear = c .before .before .before in
+    let args = clear .before .before .before .args in
+    let z = clear .if1 .left in
+    gathers-bar _ es (objectOf (args .header) (args .body .now)) w _ z (c .before .object-bar .ensures es (λ k. c .before .before .has .ensures es (w .seen z) k)) (c .if2 .taken)
 
--- src/container.rt:86:16
 add-t7 : tie.Need-add-t7
 add-t7 c = search needs
 
--- src/container.rt:87:15
 with-requires : tie.Need-with-requires
 with-requires c κs = search needs
 
--- src/container.rt:88:15
 hops-with-requires : tie.Need-hops-with-requires
 hops-with-requires c κs = search needs
 
--- src/container.rt:67:1
 returns-3 : tie.Need-returns-3
-returns-3 c = λ es w. let z = c .before .before .before .before .before .before .if1 .left in gathers-more _ es (objectOf (c .before .before .before .before .before .before .before .before .before .args .header) (c .before .before .before .before .before .before .before .before .before .args .body .now)) w _ _ z (sym (c .before .before .before .if2 .left) ∙ c .before .before .before .before .object-bar .ensures es (λ k. c .before .before .before .before .before .has .ensures es (w .seen z) k)) (c .before .with .ensures es (c .before .before .before .before .before .before .before .before .before .args .body .now) (w .seen z)) (c .hops-with .ensures es (w .hops z))
+returns-3 c = λ es w.
+    let barred = c .before .before .before .before in
+    let clear = barred .before .before in
+    let args = clear .before .before .before .args in
+    let z = clear .if1 .left in
+    gathers-more _ es (objectOf (args .header) (args .body .now)) w _ _ z
+    (sym (c .before .before .before .if2 .left) ∙ barred .object-bar .ensures es (λ k. barred .before .has .ensures es (w .seen z) k))
+    (c .before .with .ensures es (args .body .now) (w .seen z)) (c .hops-with .ensures es (w .hops z))
 
 pub gather-spec : {M : Type 1} → statement M
 gather-spec =

@@ -5,24 +5,19 @@ use borrow.Author.Needs.{needs}
 use Rattle.wire.proofs.container.is_misframed.Statement.{statement}
 use Rattle.wire.proofs.container.is_misframed.Tie as tie
 
--- src/container.rt:42:9
 returns : tie.Need-returns
 unfolding misframed
 returns c = rw (lt-ltb _ _ (c .if1 .taken))
 
--- src/container.rt:44:16
 shared-slice-read-size : tie.Need-shared-slice-read-size
 shared-slice-read-size c = search needs
 
--- src/container.rt:44:16
 cast-size : tie.Need-cast-size
 cast-size c = omega (arith, c .shared-slice-known .given 1)
 
--- src/container.rt:45:6
 shared-slice-read-result : tie.Need-shared-slice-read-result
 shared-slice-read-result c = search needs
 
--- src/container.rt:37:1
 returns-2 : tie.Need-returns-2
 unfolding misframed
 returns-2 c = rw (le-ltb _ _ (c .before .before .if1 .left))

@@ -2,7 +2,6 @@ use Rattle.wire.proofs.HeaderLaws.{constraint-by}
 use Rattle.wire.proofs.objects.is_constraint.Statement.{statement}
 use Rattle.wire.proofs.objects.is_constraint.Tie as tie
 
--- src/objects.rt:69:1
 returns : tie.Need-returns
 returns c = constraint-by _ _
 

@@ -2,7 +2,6 @@ use Rattle.wire.proofs.HeaderLaws.{recorded-by}
 use Rattle.wire.proofs.objects.is_recorded.Statement.{statement}
 use Rattle.wire.proofs.objects.is_recorded.Tie as tie
 
--- src/objects.rt:76:1
 returns : tie.Need-returns
 returns c = recorded-by _ _
 

@@ -5,23 +5,18 @@ use borrow.Author.Needs.{needs}
 use Rattle.wire.proofs.seen.has.Statement.{statement}
 use Rattle.wire.proofs.seen.has.Tie as tie
 
--- src/seen.rt:23:9
 use-bit-requires : tie.Need-use-bit-requires
 use-bit-requires c κs = search needs
 
--- src/seen.rt:25:25
 cast-result : tie.Need-cast-result
 cast-result c = search needs
 
--- src/seen.rt:25:17
 shr-result : tie.Need-shr-result
 shr-result c = search needs
 
--- src/seen.rt:25:9
 returns : tie.Need-returns
 returns c = λ es m k. marks-has _ es (objectOf (c .before .before .args .header) []) _ m k (c .before .use-bit .ensures)
 
--- src/seen.rt:20:1
 returns-2 : tie.Need-returns-2
 returns-2 c = λ es m k. marks-behind (objectOf (c .before .before .args .header) []) _ _ k (c .before .use-bit .ensures) (c .if1 .left)
 

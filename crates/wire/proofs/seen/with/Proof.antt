@@ -4,23 +4,18 @@ use borrow.Author.Needs.{needs}
 use Rattle.wire.proofs.seen.with.Statement.{statement}
 use Rattle.wire.proofs.seen.with.Tie as tie
 
--- src/seen.rt:34:9
 use-bit-requires : tie.Need-use-bit-requires
 use-bit-requires c κs = search needs
 
--- src/seen.rt:36:29
 cast-result : tie.Need-cast-result
 cast-result c = search needs
 
--- src/seen.rt:36:24
 shl-result : tie.Need-shl-result
 shl-result c = search needs
 
--- src/seen.rt:36:9
 returns : tie.Need-returns
 returns c = λ es b m. marks-with _ es (objectOf (c .before .before .args .header) b) _ m (c .before .use-bit .ensures) (c .if1 .taken)
 
--- src/seen.rt:31:1
 returns-2 : tie.Need-returns-2
 returns-2 c = λ es b m. marks-past _ es (objectOf (c .before .before .args .header) b) _ m (c .before .use-bit .ensures) (c .if1 .left)
 

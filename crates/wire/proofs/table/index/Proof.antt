@@ -4,11 +4,9 @@ use borrow.Author.Needs.{needs}
 use Rattle.wire.proofs.table.index.Statement.{statement}
 use Rattle.wire.proofs.table.index.Tie as tie
 
--- src/table.rt:43:9
 returns : tie.Need-returns
 returns c = search needs
 
--- src/table.rt:39:1
 returns-2 : tie.Need-returns-2
 returns-2 c = (omega arith, row-past _ (c .if1 .left))
 

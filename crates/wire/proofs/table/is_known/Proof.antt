@@ -3,7 +3,6 @@ use mathlib.Core.Path.{sym}
 use Rattle.wire.proofs.table.is_known.Statement.{statement}
 use Rattle.wire.proofs.table.is_known.Tie as tie
 
--- src/table.rt:31:1
 returns : tie.Need-returns
 returns c = sym (known-types _)
 

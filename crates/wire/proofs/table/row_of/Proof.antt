@@ -4,35 +4,27 @@ use borrow.Author.Needs.{needs}
 use Rattle.wire.proofs.table.row_of.Statement.{statement}
 use Rattle.wire.proofs.table.row_of.Tie as tie
 
--- src/table.rt:52:9
 index-requires : tie.Need-index-requires
 index-requires c κs = search needs
 
--- src/table.rt:54:15
 array-read-t6 : tie.Need-array-read-t6
 array-read-t6 c = search needs
 
--- src/table.rt:55:15
 array-read-t10 : tie.Need-array-read-t10
 array-read-t10 c = search needs
 
--- src/table.rt:56:18
 array-read-t14 : tie.Need-array-read-t14
 array-read-t14 c = search needs
 
--- src/table.rt:57:15
 array-read-t18 : tie.Need-array-read-t18
 array-read-t18 c = search needs
 
--- src/table.rt:58:15
 array-read-t22 : tie.Need-array-read-t22
 array-read-t22 c = search needs
 
--- src/table.rt:59:17
 array-read-t26 : tie.Need-array-read-t26
 array-read-t26 c = search needs
 
--- src/table.rt:49:1
 returns : tie.Need-returns
 returns c = row-columns _ ∙ c .index .ensures .1
 
