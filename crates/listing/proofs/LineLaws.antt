@@ -13,7 +13,8 @@ use Rattle.wire.specs.declared.objects.Header.{Header}
 use Rattle.wire.specs.declared.objects.Cursor.{Cursor}
 use Rattle.wire.specs.declared.objects.Step.the-variants.{Found, CutShort, End}
 use Rattle.wire.specs.Step.{firstPlace, stepAt, objectIn}
-use Rattle.listing.specs.Listed.{textRoom, Put, headerLine}
+use Rattle.listing.specs.Listed.{textRoom}
+use Rattle.listing.specs.Put.{Put, headerLine}
 use Rattle.wire.proofs.StepLaws.{step-inside}
 use Rattle.wire.proofs.WalkLaws.{Walked, walk-first, walk-found, walk-end, walk-short, walk-room}
 use Rattle.listing.proofs.PutLaws.{put-append, put-length, digits}

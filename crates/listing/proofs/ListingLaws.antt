@@ -22,7 +22,8 @@ use Rattle.wire.specs.declared.container.Reading.the-variants.{Refused, WellFor
 use Rattle.listing.specs.declared.Listed.{Listed}
 use Rattle.listing.specs.declared.Listed.the-variants.{Text, ShortOutput}
 use Rattle.wire.specs.Reading.{told}
-use Rattle.listing.specs.Listed.{textRoom, listed, listedIn, TextFits, FrontTells, Put}
+use Rattle.listing.specs.Listed.{textRoom, listed, listedIn, TextFits, FrontTells}
+use Rattle.listing.specs.Put.{Put}
 use Rattle.listing.proofs.PutLaws.{digits}
 use Rattle.listing.proofs.LineLaws.{lines-room}
 

@@ -11,7 +11,7 @@ use lib.Dec.{ltb}
 use borrow.Author.Tests.{ltb-false}
 use Rattle.model.specs.Listing.{space, digit, decimal, line}
 use Rattle.listing.specs.declared.Listed.the-variants.{Text}
-use Rattle.listing.specs.Listed.{Put, numberAnd}
+use Rattle.listing.specs.Put.{Put, numberAnd}
 
 -- ---- one text behind another
 

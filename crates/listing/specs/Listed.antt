@@ -1,41 +1,18 @@
 -- The text that lists a container, in an output.
 use mathlib.Core.Path.{_≡_}
-use Prim.Native.Nat.{ℕ, _+_, _/_, _%_, _≤_}
+use Prim.Native.Nat.{ℕ, _≤_}
 use mathlib.Core.Bool.{cond}
-use mathlib.Core.List.{List, [], _∷_, _++_}
+use mathlib.Core.List.{List, _++_}
 use lib.ListN.{length, take, drop}
-use lib.Seq.{sets}
 use lib.Dec.{ltb}
 use Rattle.model.specs.RoundTrip.{Bytes}
-use Rattle.model.specs.Listing.{decimal, line, listing}
-use Rattle.wire.specs.declared.objects.Header.{Header}
+use Rattle.model.specs.Listing.{listing}
 use Rattle.listing.specs.declared.Listed.{Listed}
 use Rattle.listing.specs.declared.Listed.the-variants.{Text, ShortOutput}
 
 -- the length of output that holds the text of any container
 abbrev pub textRoom : ℕ
 textRoom = 1100
-
--- the text of any container of bytes has that room
-abbrev pub TextFits : Type 0
-TextFits = (bs : List ℕ) → Bytes bs → length (listing bs) ≤ textRoom
-
--- the first 258 bytes of an input tell its listing: a container has 257 at most
-abbrev pub FrontTells : Type 0
-FrontTells = (bs : List ℕ) → Bytes bs → listing (take 258 bs) ≡ listing bs
-
--- a text is put into an output at an index: the index behind it, and the output as it is left
-pub record Put (output : List ℕ) (at : ℕ) (text : List ℕ) (behind : ℕ) (left : List ℕ) : Type 0 where
-  pub end : behind ≡ at + length text
-  pub written : left ≡ sets output at text
-
--- a number in decimal and a byte behind it
-abbrev pub numberAnd : (n end : ℕ) → List ℕ
-numberAnd n end = decimal n ++ (end ∷ [])
-
--- the line of an object by its header and the length of its body
-abbrev pub headerLine : Header → (size : ℕ) → List ℕ
-headerLine h size = line (h .mctype) (h .flags / 2 % 2 ∷ h .flags % 2 ∷ h .mode / 128 % 2 ∷ h .mode / 16 % 8 ∷ h .mode % 16 ∷ size ∷ [])
 
 -- the answer, by the container and the length of the output
 unfoldable pub listed : List ℕ → (room : ℕ) → Listed
@@ -44,3 +21,13 @@ listed bs room = cond (ltb room textRoom) ShortOutput (Text (length (listing bs)
 -- the output as it is left: the text and the bytes behind it as they were; or untouched
 unfoldable pub listedIn : List ℕ → (output : List ℕ) → List ℕ
 listedIn bs output = cond (ltb (length output) textRoom) output (listing bs ++ drop (length (listing bs)) output)
+
+-- ---- statements
+
+-- the text of any container of bytes has that room
+abbrev pub TextFits : Type 0
+TextFits = (bs : List ℕ) → Bytes bs → length (listing bs) ≤ textRoom
+
+-- the first 258 bytes of an input tell its listing: a container has 257 at most
+abbrev pub FrontTells : Type 0
+FrontTells = (bs : List ℕ) → Bytes bs → listing (take 258 bs) ≡ listing bs

@@ -13,7 +13,8 @@ use Rattle.wire.specs.declared.objects.Header.{Header}
 use Rattle.wire.specs.declared.objects.Cursor.{Cursor}
 use Rattle.wire.specs.declared.objects.Step.{Step}
 use Rattle.wire.specs.declared.objects.Step.the-variants.{Found, CutShort, End}
-use Rattle.wire.specs.Step.{firstPlace, stepAt, objectIn, after, walkUpTo, walk, Walks}
+use Rattle.wire.specs.Step.{firstPlace, stepAt, objectIn}
+use Rattle.wire.specs.Walk.{after, walkUpTo, walk, Walks}
 use Rattle.wire.proofs.StepLaws.{found, bytes-at, split-found, split-short, split-end}
 
 -- the objects before a place of a container that a walk has come to

@@ -1,4 +1,4 @@
--- What the reading pass has gathered of the objects so far.
+-- Inside the crate: what the reading pass has gathered of the objects so far.
 use mathlib.Core.Path.{_≡_}
 use mathlib.Core.List.{List, []}
 use mathlib.Core.Option.{some}

@@ -1,5 +1,6 @@
 pub mod Step
+pub mod Walk
 pub mod Row
+pub mod Reading
 pub mod Seen
 pub mod Gathered
-pub mod Reading

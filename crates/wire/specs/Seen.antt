@@ -1,4 +1,4 @@
--- The uses of known types, as the bits of a number.
+-- Inside the crate: the uses of known types, as the bits of a number.
 use mathlib.Core.Path.{_≡_}
 use Prim.Native.Nat.{ℕ, _+_, _*_, _/_, _%_, _^_}
 use mathlib.Core.Bool.{Bool, true}

@@ -1,13 +1,10 @@
 -- What stands at a place of a container.
-use mathlib.Core.Path.{_≡_}
-use Prim.Native.Nat.{ℕ, zero, suc, _+_, _-_}
-use mathlib.Core.List.{List, []}
-use mathlib.Core.Option.{Option, none, some}
+use Prim.Native.Nat.{ℕ, _+_, _-_}
+use mathlib.Core.List.{List}
 use mathlib.Core.Bool.{cond}
 use lib.ListN.{length, take, drop, getD}
 use lib.Dec.{leb, ltb}
-use Rattle.model.specs.Object.{Object, object, before}
-use Rattle.model.specs.Reading.{dataObjects}
+use Rattle.model.specs.Object.{Object, object}
 use Rattle.wire.specs.declared.objects.Header.{Header}
 use Rattle.wire.specs.declared.objects.Cursor.{Cursor}
 use Rattle.wire.specs.declared.objects.Step.{Step}
@@ -40,22 +37,3 @@ objectOf h b = object (h .mctype) (h .flags) (h .mode) b
 -- the object whose body is the container's bytes from start to end
 abbrev pub objectIn : List ℕ → Header → (start end : ℕ) → Object
 objectIn bs h start end = objectOf h (take (end - start) (drop start bs))
-
--- the objects from a place on, where a step is taken that says so; none where it runs past the end
-abbrev pub after : List ℕ → Step → (rest : Cursor → Option (List Object)) → Option (List Object)
-after bs (Found h start end n) rest = before (objectIn bs h start end) (rest n)
-after bs CutShort rest = none
-after bs End rest = some []
-
--- the objects that steps find from a place on; `limit` bounds their number
-unfoldable pub walkUpTo : (limit : ℕ) → List ℕ → Cursor → Option (List Object)
-walkUpTo zero bs p = none
-walkUpTo (suc k) bs p = after bs (stepAt bs p) (λ n. walkUpTo k bs n)
-
--- the objects that steps find in a container, which has no more of them than bytes
-unfoldable pub walk : List ℕ → Option (List Object)
-walk bs = walkUpTo (suc (length bs)) bs firstPlace
-
--- the walk finds the container's objects
-abbrev pub Walks : Type 0
-Walks = (bs : List ℕ) → walk bs ≡ dataObjects bs
