@@ -1,5 +1,6 @@
 // Reads lines of a name and the bytes of a container in hexadecimal, a space before each, and writes for each the name and what
 // reading the container answers: the bar and the index of its object, or the number of objects and the count of the HP metric.
+// It takes the first 65,536 bytes of its input.
 ghost use Prim.Native.Nat.{_≤_, _<_};
 ghost use lib.ListN.{length};
 use libc::STDIN_FILENO;
@@ -78,7 +79,7 @@ fn say_reading(container: &[u8]) {
         Reading::Refused { number, place } => {
             say(b" refused ");
             say_number(number as u32);
-            if place != 255 {
+            if place != 65535 {
                 say(b" at ");
                 say_number(place as u32);
             }

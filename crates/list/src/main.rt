@@ -6,7 +6,7 @@ use listing::Listed;
 // A container has 257 bytes at most: 258 bytes that begin an input say as much as all of it.
 fn main() {
     let mut input = [0u8; 258];
-    let mut text = [0u8; 1100];
+    let mut text = [0u8; listing::TEXT_ROOM];
     let n = io::read_full(STDIN_FILENO, &mut input);
     match listing::list(&input[..n], &mut text) {
         Listed::Text(size) => {

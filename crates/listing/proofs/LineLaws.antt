@@ -12,7 +12,7 @@ use Rattle.model.specs.Listing.{line, objectLine, objectLines}
 use Rattle.wire.specs.declared.objects.Header.{Header}
 use Rattle.wire.specs.declared.objects.Cursor.{Cursor}
 use Rattle.wire.specs.declared.objects.Step.the-variants.{Found, CutShort, End}
-use Rattle.wire.specs.Step.{firstPlace, stepAt, objectIn}
+use Rattle.wire.specs.Step.{firstCursor, stepAt, objectIn}
 use Rattle.listing.specs.Listed.{textRoom}
 use Rattle.listing.specs.Put.{Put, headerLine}
 use Rattle.wire.proofs.StepLaws.{step-inside}
@@ -54,7 +54,7 @@ pub record Lines (bs output : List ℕ) (p : Cursor) (used : ℕ) (left : List �
   pub put : Put output 0 (objectLines earlier) used left
 
 -- there are none before the first place
-pub lines-first : (bs output : List ℕ) → Lines bs output firstPlace 0 output
+pub lines-first : (bs output : List ℕ) → Lines bs output firstCursor 0 output
 unfolding objectLines
 lines-first bs output = record { earlier = []; walked = walk-first bs; put = record { end = refl; written = refl } }
 

@@ -1,15 +1,15 @@
 -- The text of what was read.
 use mathlib.Core.Path.{_≡_, refl, sym, ap, _∙_}
-use Prim.Native.Nat.{ℕ, suc, _+_, _-_, _≤_}
+use Prim.Native.Nat.{ℕ, suc, _+_, _≤_}
 use native.Mathlib.Nat.{zero-add}
 use native.Mathlib.Omega.{arith}
-use mathlib.Core.Bool.{Bool, true, false, cond, _||_, or-true, not}
+use mathlib.Core.Bool.{Bool, true, false, cond}
 use mathlib.Core.List.{List, [], _∷_, _++_}
 use mathlib.Core.Option.{some}
 use lib.ListN.{length, take, drop, getD, length-append}
 use lib.Seq.{sets-eq, take-all, getD-take, length-take-le}
-use lib.Dec.{ltb, eqb}
-use borrow.Author.Tests.{le-ltb, ltb-true, ltb-false, ne-eqb}
+use lib.Dec.{ltb}
+use borrow.Author.Tests.{le-ltb, ltb-true, ltb-false}
 use Rattle.model.specs.declared.Summary.{Summary}
 use Rattle.model.specs.Object.{Object, join}
 use Rattle.model.specs.Reading.{misframed, dataObjects, reading}
@@ -17,12 +17,12 @@ use Rattle.model.specs.Reading as model
 use Rattle.model.specs.RoundTrip.{Bytes}
 use Rattle.model.specs.Listing.{newline, decimal, line, objectLines, refusedWord, listingOf, listing}
 use Rattle.model.proofs.ByteLaws.{first-byte}
-use Rattle.model.proofs.ReadingLaws.{reading-objects}
+use Rattle.model.proofs.ReadingLaws.{framed-short, reading-objects}
 use Rattle.wire.specs.declared.container.Reading.the-variants.{Refused, WellFormed}
 use Rattle.listing.specs.declared.Listed.{Listed}
 use Rattle.listing.specs.declared.Listed.the-variants.{Text, ShortOutput}
-use Rattle.wire.specs.Reading.{told}
-use Rattle.listing.specs.Listed.{textRoom, listed, listedIn, TextFits, FrontTells}
+use Rattle.wire.specs.Reading.{readingOf}
+use Rattle.listing.specs.Listed.{textRoom, listed, listedIn, TextFits, ListingOfFront}
 use Rattle.listing.specs.Put.{Put}
 use Rattle.listing.proofs.PutLaws.{digits}
 use Rattle.listing.proofs.LineLaws.{lines-room}
@@ -53,31 +53,31 @@ byte-one (a ∷ b ∷ bs) h = first-byte b bs (first-byte a (b ∷ bs) h .1) .0
 pub text-fits : TextFits
 text-fits bs h = text-short bs (byte-one bs h)
 
--- the objects of a container that is told to be well-formed
-well-formed : (bs : List ℕ) {count : ℕ} {summary : Summary} → told (reading bs) ≡ WellFormed count summary → (os : List Object) × (reading bs ≡ model.wellFormed os)
+-- the objects of a container that is readingOf to be well-formed
+well-formed : (bs : List ℕ) {count : ℕ} {summary : Summary} → readingOf (reading bs) ≡ WellFormed count summary → (os : List Object) × (reading bs ≡ model.wellFormed os)
 well-formed bs {count} {summary} e = go (reading bs) refl e
   where
-    go : (m : model.Reading) → reading bs ≡ m → told m ≡ WellFormed count summary → (os : List Object) × (reading bs ≡ model.wellFormed os)
+    go : (m : model.Reading) → reading bs ≡ m → readingOf m ≡ WellFormed count summary → (os : List Object) × (reading bs ≡ model.wellFormed os)
     go (model.refused n p) f e = absurd (let z : _≡_ {A = ℕ} 0 1 = cc in omega arith)
     go (model.wellFormed os) f e = (os, f)
 
 -- it has 257 bytes at most
-pub well-short : (bs : List ℕ) {count : ℕ} {summary : Summary} → told (reading bs) ≡ WellFormed count summary → getD bs 1 0 ≤ 255 → length bs ≤ 257
+pub well-short : (bs : List ℕ) {count : ℕ} {summary : Summary} → readingOf (reading bs) ≡ WellFormed count summary → getD bs 1 0 ≤ 255 → length bs ≤ 257
 well-short bs e l = let (os, r) = well-formed bs e in data-short bs os r l .1
 
 -- its text is the lines of its objects
-pub well-text : (bs : List ℕ) {output left : List ℕ} {count r : ℕ} {summary : Summary} → told (reading bs) ≡ WellFormed count summary
+pub well-text : (bs : List ℕ) {output left : List ℕ} {count r : ℕ} {summary : Summary} → readingOf (reading bs) ≡ WellFormed count summary
     → ((os : List Object) → dataObjects bs ≡ some os → Put output 0 (objectLines os) r left) → Put output 0 (listing bs) r left
 unfolding listing
 well-text bs e q = let (os, r) = well-formed bs e in rw r (q os (reading-objects bs os r .objects))
 
--- the text of a container that is told to be refused
-pub refused-text : (bs : List ℕ) {output left : List ℕ} {n place r : ℕ} → told (reading bs) ≡ Refused n place
+-- the text of a container that is readingOf to be refused
+pub refused-text : (bs : List ℕ) {output left : List ℕ} {n place r : ℕ} → readingOf (reading bs) ≡ Refused n place
     → Put output 0 (refusedWord ++ line n []) r left → Put output 0 (listing bs) r left
 unfolding listing
 refused-text bs {output} {left} {n} {place} {r} e q = go (reading bs) refl e
   where
-    go : (m : model.Reading) → reading bs ≡ m → told m ≡ Refused n place → Put output 0 (listingOf (reading bs)) r left
+    go : (m : model.Reading) → reading bs ≡ m → readingOf m ≡ Refused n place → Put output 0 (listingOf (reading bs)) r left
     go (model.refused k p) f e = let s : k ≡ n = cc in rw (f, s) q
     go (model.wellFormed os) f e = absurd (let z : _≡_ {A = ℕ} 0 1 = cc in omega arith)
 
@@ -91,7 +91,7 @@ listed-by bs output {left} {r} l m p =
     let e : left ≡ listing bs ++ drop (length (listing bs)) output = p .written ∙ sets-eq (listing bs) output 0 fits ∙ rw z in
     rw (le-ltb (length output) textRoom l) (ap Text (p .end ∙ z), e)
 
--- a text that is told lies in the output
+-- a text that is readingOf lies in the output
 pub listed-inside : (bs output left : List ℕ) {r : Listed} {size : ℕ} → r ≡ listed bs (length output) → r ≡ Text size → left ≡ listedIn bs output → size ≤ length left
 unfolding listed listedIn
 listed-inside bs output left {r} {size} e t w = go (ltb (length output) textRoom) (sym e ∙ t) w
@@ -106,15 +106,18 @@ listed-inside bs output left {r} {size} e t w = go (ltb (length output) textRoom
 -- ---- inputs that no container is as long as
 
 long-misframed : (bs : List ℕ) → 258 ≤ length bs → getD bs 1 0 ≤ 255 → misframed bs ≡ true
-unfolding misframed
-long-misframed bs l b = rw (ne-eqb (getD bs 1 0) (length bs - 2) (λ e. omega arith)) (or-true (ltb (length bs) 2 || not (eqb (getD bs 0 0) 2)))
+long-misframed bs l b = go (misframed bs) refl
+  where
+    go : (m : Bool) → misframed bs ≡ m → m ≡ true
+    go true e = refl
+    go false e = absurd (let s = framed-short bs e b in omega arith)
 
 long-listing : (bs : List ℕ) → misframed bs ≡ true → listing bs ≡ refusedWord ++ line 13 []
 unfolding listing reading
 long-listing bs m = rw m
 
-pub front-tells : FrontTells
-front-tells bs h = go (ltb (length bs) 258) refl
+pub listing-of-front : ListingOfFront
+listing-of-front bs h = go (ltb (length bs) 258) refl
   where
     go : (b : Bool) → ltb (length bs) 258 ≡ b → listing (take 258 bs) ≡ listing bs
     go true e = ap listing (take-all 258 bs (let l = ltb-true (length bs) 258 e in omega arith))

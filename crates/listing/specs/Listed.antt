@@ -28,6 +28,6 @@ listedIn bs output = cond (ltb (length output) textRoom) output (listing bs ++ d
 abbrev pub TextFits : Type 0
 TextFits = (bs : List ℕ) → Bytes bs → length (listing bs) ≤ textRoom
 
--- the first 258 bytes of an input tell its listing: a container has 257 at most
-abbrev pub FrontTells : Type 0
-FrontTells = (bs : List ℕ) → Bytes bs → listing (take 258 bs) ≡ listing bs
+-- the first 258 bytes of an input have its listing: a container has 257 at most
+abbrev pub ListingOfFront : Type 0
+ListingOfFront = (bs : List ℕ) → Bytes bs → listing (take 258 bs) ≡ listing bs

@@ -14,7 +14,7 @@ use wire::Reading;
 use wire::Step;
 
 // Bytes that hold the text of any container.
-const TEXT_ROOM: usize = 1100;
+pub const TEXT_ROOM: usize = 1100;
 
 // A container is listed: the text is so many bytes long; or the output is too short for every text, and untouched.
 pub enum Listed {
@@ -65,10 +65,10 @@ fn put_lines(container: &[u8], out: &mut [u8]) -> usize
     requires { ⌜ textRoom ≤ length (now out) ⌝ }
     ensures { λ r. ⌜ ((os : List Object) → dataObjects (now (container .entry)) ≡ some os → Put (now (out .entry)) 0 (objectLines os) r (now (out .exit))) ⌝ }
 {
-    let mut place = wire::first();
+    let mut cursor = wire::first();
     let mut used = 0;
     loop {
-        match wire::next(container, place) {
+        match wire::next(container, cursor) {
             Step::Found {
                 header,
                 start,
@@ -76,7 +76,7 @@ fn put_lines(container: &[u8], out: &mut [u8]) -> usize
                 next,
             } => {
                 used = put_line(out, used, header, (end - start) as u8);
-                place = next;
+                cursor = next;
             }
             Step::CutShort => {
                 return used;

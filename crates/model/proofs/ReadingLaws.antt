@@ -1,11 +1,11 @@
 -- What a well-formed container is; cut, it is well-formed and holds the cut objects.
 use mathlib.Core.Path.{_≡_, refl, sym, _∙_}
-use Prim.Native.Nat.{ℕ, zero, suc, _-_}
+use Prim.Native.Nat.{ℕ, zero, suc, _-_, _≤_}
 use mathlib.Core.Bool.{Bool, true, false, cond, not, _||_}
 use mathlib.Core.List.{List, [], _∷_}
 use mathlib.Core.Option.{Option, none, some}
 use native.Mathlib.Omega.{arith}
-use lib.ListN.{length, drop}
+use lib.ListN.{length, drop, getD}
 use lib.Dec.{ltb, eqb}
 use borrow.Author.Tests.{not-false, eqb-true, eq-eqb, le-ltb}
 use Rattle.model.specs.Number.{firstOf}
@@ -38,6 +38,14 @@ framed (a ∷ d ∷ bs) e =
     let x = eqb-true a 2 (not-false (eqb a 2) p) in
     let y = eqb-true d (length bs) (not-false (eqb d (length bs)) q) in
     cc
+
+-- a container that is framed has no more bytes than its byte 1 says
+pub framed-short : (bs : List ℕ) → misframed bs ≡ false → getD bs 1 0 ≤ 255 → length bs ≤ 257
+framed-short bs e l =
+    let w = framed bs e in
+    let s : getD bs 1 0 ≡ length (drop 2 bs) = rw w in
+    let t : length bs ≡ suc (suc (length (drop 2 bs))) = rw w in
+    omega arith
 
 readAs-objects : (n p : ℕ) (ts os : List Object) → readAs n p ts ≡ wellFormed os → (n ≡ 0) × (ts ≡ os)
 readAs-objects zero p ts os e = (refl, cc)

@@ -7,7 +7,7 @@ use lib.ListN.{List·getD-eq-default}
 use lib.Dec.{leb, ltb, eqb}
 use borrow.Author.Tests.{lt-leb, eq-eqb, ne-eqb, ltb-true, ltb-false}
 use Rattle.model.specs.Number.{isSet}
-use Rattle.model.specs.Object.{Object, isConstraint, isHp, unknown, kinds, kindOf, known, roleBits, roleOf}
+use Rattle.model.specs.Object.{Object, isConstraint, isHp, Kind, unknown, lql, node, scalar, nsa, ne, hp, throughput, latency, etx, kinds, kindOf, known, roleBits, roleOf}
 use Rattle.model.specs.Table.{row}
 use Rattle.model.specs.Reading.{cannotBe}
 use Rattle.model.specs.Constraint.{unknownMandatory}
@@ -15,7 +15,7 @@ use Rattle.model.specs.Unknown.{isUnknownMandatory}
 use Rattle.model.specs.Exact.{KnownTypes, MisusedTypes}
 use Rattle.model.proofs.NumberLaws.{allBelow, below-all}
 
-beq-true : (a b : Bool) → Bool·beq a b ≡ true → a ≡ b
+pub beq-true : (a b : Bool) → Bool·beq a b ≡ true → a ≡ b
 beq-true true true e = refl
 beq-true true false e = absurd (false≢true e)
 beq-true false true e = absurd (false≢true e)
@@ -37,6 +37,18 @@ every-type f g h p t = go (ltb t 8) refl
     go : (b : Bool) → ltb t 8 ≡ b → f t ≡ g t
     go true e = beq-true (f t) (g t) (below-all 8 (λ t. Bool·beq (f t) (g t)) h t (ltb-true t 8 e))
     go false e = p t (ltb-false t 8 e)
+
+-- a test of every kind, by computation
+pub every-kind : (f : Kind → Bool) → allBelow 8 (λ t. f (kindOf t)) ≡ true → (k : Kind) → f k ≡ true
+unfolding kindOf
+every-kind f h unknown = below-all 8 (λ t. f (kindOf t)) h 0 (omega arith)
+every-kind f h (node nsa) = below-all 8 (λ t. f (kindOf t)) h 1 (omega arith)
+every-kind f h (node ne) = below-all 8 (λ t. f (kindOf t)) h 2 (omega arith)
+every-kind f h (node hp) = below-all 8 (λ t. f (kindOf t)) h 3 (omega arith)
+every-kind f h (scalar throughput) = below-all 8 (λ t. f (kindOf t)) h 4 (omega arith)
+every-kind f h (scalar latency) = below-all 8 (λ t. f (kindOf t)) h 5 (omega arith)
+every-kind f h lql = below-all 8 (λ t. f (kindOf t)) h 6 (omega arith)
+every-kind f h (scalar etx) = below-all 8 (λ t. f (kindOf t)) h 7 (omega arith)
 
 pub known-types : KnownTypes
 known-types = every-type (λ t. known (kindOf t)) (λ t. leb 1 t && leb t 7) below-8 (λ t l. past-kinds t l ∙ sym (rw (lt-leb t 7 (omega arith)) (and-false (leb 1 t))))

@@ -11,7 +11,7 @@ use Rattle.model.specs.Table.{Row, row}
 
 -- the place of a bar that is at no object
 abbrev pub noPlace : ℕ
-noPlace = 255
+noPlace = 65535
 
 -- bar 13: under 2 bytes, byte 0 not 2, or D not length minus 2
 unfoldable pub misframed : List ℕ → Bool

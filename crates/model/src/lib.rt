@@ -65,10 +65,10 @@ pub struct Summary {
     pub hops: Quantity,
 }
 
-// Document 01's verdict: unbarred with the resulting rank, or barred by a number, at the object of index `place`; 255 for none.
+// Document 01's verdict: unbarred with the resulting rank, or barred by a number, at the object of index `place`; 65535 for none.
 pub enum Verdict {
     Unbarred(Rank),
-    Barred { number: u8, place: u8 },
+    Barred { number: u8, place: u16 },
 }
 
 // The preferred parent, where there is one.
@@ -77,14 +77,14 @@ pub enum Choice {
     Parent { position: usize, rank: Rank },
 }
 
-// The answer of a call. No parent is 255, no rank is 65535, no object's place is 255.
+// The answer of a call. No parent is 255, no rank is 65535, no object's place is 65535.
 #[repr(C)]
 pub struct Answer {
     pub refusal: u8,
     pub parent: u8,
     pub rank: Rank,
     pub verdicts: [u8; 16],
-    pub places: [u8; 16],
+    pub places: [u16; 16],
     pub bits: u16,
     pub count: u8,
     pub leaf: u8,

@@ -3,7 +3,7 @@ use mathlib.Core.Path.{_≡_, refl, sym, subst}
 use Prim.Native.Nat.{ℕ, _+_, _-_, _%_, _≤_, _<_}
 use native.Mathlib.Nat.{mod-zero, mod-one}
 use native.Mathlib.Omega.{arith}
-use mathlib.Core.Bool.{true, false, _||_, not, false≢true, true≢false}
+use mathlib.Core.Bool.{Bool·beq, true, false, _||_, not, false≢true, true≢false}
 use mathlib.Core.List.{List}
 use lib.ListN.{length, take, drop, length-drop}
 use lib.Seq.{take-all}
@@ -12,6 +12,7 @@ use borrow.Author.Tests.{le-leb, lt-leb}
 use Rattle.model.specs.Object.{Kind, unknown, lql, node, scalar, nsa, ne, hp, throughput, latency, etx, kindOf, Role, constraint, recorded, aggregated, roleOf, isConstraint, isRecorded}
 use Rattle.model.specs.Table.{row}
 use Rattle.model.specs.Reading.{tlvsFit, fixedShape, recordedShape, shaped, cannotBe, isEmpty}
+use Rattle.model.proofs.TypeLaws.{beq-true, every-kind}
 use Rattle.wire.specs.declared.objects.Header.{Header}
 use Rattle.wire.specs.declared.table.Row.{Row}
 use Rattle.wire.specs.Row.{rowIn, rowFor}
@@ -110,14 +111,8 @@ misused-recorded h w q e = go (roleIn h) e
 
 -- a mask is 0 where no A is allowed
 masks : (k : Kind) → eqb (rowIn k .allows) 0 ≡ isEmpty (row k .allows)
-masks unknown = refl
-masks (node nsa) = refl
-masks (node ne) = refl
-masks (node hp) = refl
-masks (scalar throughput) = refl
-masks (scalar latency) = refl
-masks lql = refl
-masks (scalar etx) = refl
+unfolding kindOf
+masks k = beq-true _ _ (every-kind (λ k. Bool·beq (eqb (rowIn k .allows) 0) (isEmpty (row k .allows))) refl k)
 
 pub misused-aggregated : (h : Header) (w : Row) → w ≡ rowFor (h .mctype) → isConstraint (roleIn h) ≡ false → isRecorded (roleIn h) ≡ false
     → eqb (w .allows) 0 ≡ cannotBe (roleIn h) (row (kindIn h))

@@ -14,7 +14,7 @@ use Rattle.wire.specs.declared.container.Gathered.{Gathered}
 use Rattle.wire.specs.declared.container.Reading.the-variants.{Refused, WellFormed}
 use Rattle.wire.specs.Seen.{Marks}
 use Rattle.wire.specs.Gathered.{Gathers, wholeReading}
-use Rattle.wire.specs.Reading.{told}
+use Rattle.wire.specs.Reading.{readingOf}
 use Rattle.wire.proofs.SeenLaws.{no-marks}
 
 -- the bar and the index among objects
@@ -77,14 +77,14 @@ module _ (g : Gathered) (es : List Object) (o : Object) (w : Gathers g es) where
       }
 
 -- what is gathered of all objects tells the reading
-pub gathers-refused : (g : Gathered) (os : List Object) → Gathers g os → (g .number ≡ 0 → ⊥) → Refused (g .number) (g .place) ≡ told (wholeReading os)
+pub gathers-refused : (g : Gathered) (os : List Object) → Gathers g os → (g .number ≡ 0 → ⊥) → Refused (g .number) (g .place) ≡ readingOf (wholeReading os)
 gathers-refused g os w h = rw (w .number, w .place) (go (barAmong os) (λ e. h (w .number ∙ e)))
   where
-    go : (n : ℕ) → (n ≡ 0 → ⊥) → Refused n (indexAmong os) ≡ told (readAs n (indexAmong os) os)
+    go : (n : ℕ) → (n ≡ 0 → ⊥) → Refused n (indexAmong os) ≡ readingOf (readAs n (indexAmong os) os)
     go zero h = absurd (h refl)
     go (suc n) h = refl
 
-pub gathers-whole : (g : Gathered) (os : List Object) → Gathers g os → g .number ≡ 0 → WellFormed (g .place) (record { hops = g .hops }) ≡ told (wholeReading os)
+pub gathers-whole : (g : Gathered) (os : List Object) → Gathers g os → g .number ≡ 0 → WellFormed (g .place) (record { hops = g .hops }) ≡ readingOf (wholeReading os)
 gathers-whole g os w z =
     let n : barAmong os ≡ 0 = sym (w .number) ∙ z in
     rw (w .place, w .hops z, place-none os n, n)

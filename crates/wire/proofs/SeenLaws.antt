@@ -15,7 +15,8 @@ use Rattle.model.specs.Reading.{sameUse}
 use Rattle.model.proofs.BoolLaws.{both}
 use Rattle.model.proofs.ListLaws.{any-append}
 use Rattle.model.proofs.TypeLaws.{known-types}
-use Rattle.wire.specs.Seen.{useBit, hasBit, Marks}
+use Rattle.wire.specs.Row.{hasBit}
+use Rattle.wire.specs.Seen.{useIndex, Marks}
 
 -- ---- a bit set in a number
 
@@ -57,38 +58,38 @@ bit-with n k j h = rw (shift-one k h, or-bit n k j) (go (eqb k j) refl)
 -- ---- uses
 
 -- two objects of one use have one bit
-use-eqb : (o e : Object) → sameUse o e ≡ eqb (useBit e) (useBit o)
+use-eqb : (o e : Object) → sameUse o e ≡ eqb (useIndex e) (useIndex o)
 use-eqb o e = go (eqb (e .type) (o .type)) (eqb (bitC e) (bitC o)) refl refl
   where
-    go : (s t : Bool) → eqb (e .type) (o .type) ≡ s → eqb (bitC e) (bitC o) ≡ t → s && t ≡ eqb (useBit e) (useBit o)
-    go true true p q = let x = eqb-true (e .type) (o .type) p in let y = eqb-true (bitC e) (bitC o) q in sym (eq-eqb (useBit e) (useBit o) (omega arith))
-    go true false p q = let y = eqb-false (bitC e) (bitC o) q in let x = eqb-true (e .type) (o .type) p in sym (ne-eqb (useBit e) (useBit o) (λ z. y (omega arith)))
-    go false t p q = let x = eqb-false (e .type) (o .type) p in sym (ne-eqb (useBit e) (useBit o) (λ z. x (omega arith)))
+    go : (s t : Bool) → eqb (e .type) (o .type) ≡ s → eqb (bitC e) (bitC o) ≡ t → s && t ≡ eqb (useIndex e) (useIndex o)
+    go true true p q = let x = eqb-true (e .type) (o .type) p in let y = eqb-true (bitC e) (bitC o) q in sym (eq-eqb (useIndex e) (useIndex o) (omega arith))
+    go true false p q = let y = eqb-false (bitC e) (bitC o) q in let x = eqb-true (e .type) (o .type) p in sym (ne-eqb (useIndex e) (useIndex o) (λ z. y (omega arith)))
+    go false t p q = let x = eqb-false (e .type) (o .type) p in sym (ne-eqb (useIndex e) (useIndex o) (λ z. x (omega arith)))
 
 -- a known type's use has one of the bits
-known-bit : (o : Object) → known (kind o) ≡ true → useBit o < 16
+known-bit : (o : Object) → known (kind o) ≡ true → useIndex o < 16
 known-bit o k = let (a, b) = both (leb 1 (o .type)) (leb (o .type) 7) (sym (known-types (o .type)) ∙ k) in omega (arith, leb-true (o .type) 7 b)
 
 -- ---- marks
 
 pub no-marks : Marks 0 []
 unfolding hasBit
-no-marks o k = rw (zero-div (2 ^ useBit o))
+no-marks o k = rw (zero-div (2 ^ useIndex o))
 
 -- a bit that is read
-pub marks-has : (n : ℕ) (es : List Object) (o : Object) (k : ℕ) → Marks n es → known (kind o) ≡ true → k ≡ useBit o → eqb (n / 2 ^ k % 2) 1 ≡ anyOf (sameUse o) es
+pub marks-has : (n : ℕ) (es : List Object) (o : Object) (k : ℕ) → Marks n es → known (kind o) ≡ true → k ≡ useIndex o → eqb (n / 2 ^ k % 2) 1 ≡ anyOf (sameUse o) es
 unfolding hasBit
 marks-has n es o k m h e = rw e (m o h)
 
-pub marks-behind : (o : Object) (k : ℕ) (b : Bool) → known (kind o) ≡ true → k ≡ useBit o → 16 ≤ k → false ≡ b
+pub marks-behind : (o : Object) (k : ℕ) (b : Bool) → known (kind o) ≡ true → k ≡ useIndex o → 16 ≤ k → false ≡ b
 marks-behind o k b h e l = absurd (let z = known-bit o h in omega arith)
 
 -- a bit that is set
-pub marks-with : (n : ℕ) (es : List Object) (a : Object) (k : ℕ) → Marks n es → k ≡ useBit a → k < 16 → Marks (bitOr n ((1 * 2 ^ k) % 65536)) (es ++ (a ∷ []))
-marks-with n es a k m e l o h = rw (any-append (sameUse o) es (a ∷ []), or-false (sameUse o a), ← m o h, use-eqb o a, ← e) (bit-with n k (useBit o) l)
+pub marks-with : (n : ℕ) (es : List Object) (a : Object) (k : ℕ) → Marks n es → k ≡ useIndex a → k < 16 → Marks (bitOr n ((1 * 2 ^ k) % 65536)) (es ++ (a ∷ []))
+marks-with n es a k m e l o h = rw (any-append (sameUse o) es (a ∷ []), or-false (sameUse o a), ← m o h, use-eqb o a, ← e) (bit-with n k (useIndex o) l)
 
 -- a use that has no bit
-pub marks-past : (n : ℕ) (es : List Object) (a : Object) (k : ℕ) → Marks n es → k ≡ useBit a → 16 ≤ k → Marks n (es ++ (a ∷ []))
+pub marks-past : (n : ℕ) (es : List Object) (a : Object) (k : ℕ) → Marks n es → k ≡ useIndex a → 16 ≤ k → Marks n (es ++ (a ∷ []))
 marks-past n es a k m e l o h =
     let z = known-bit o h in
-    rw (any-append (sameUse o) es (a ∷ []), ← m o h, use-eqb o a, ne-eqb (useBit a) (useBit o) (λ q. omega arith)) (sym (or-false (hasBit n (useBit o))))
+    rw (any-append (sameUse o) es (a ∷ []), ← m o h, use-eqb o a, ne-eqb (useIndex a) (useIndex o) (λ q. omega arith)) (sym (or-false (hasBit n (useIndex o))))

@@ -132,7 +132,11 @@ split-end bs p e =
     let l : length bs ≤ p .at = ended-by bs p (leb (length bs) (p .at)) (ltb (length bs - p .at) 4) (ltb (length bs - (p .at + 4)) (getD bs (p .at + 3) 0)) refl e in
     rw (drop-of-length-le bs l)
 
+-- the bytes from a cursor on: every object makes them fewer
+abbrev pub left : List ℕ → Cursor → ℕ
+left bs p = length bs - p .at
+
 -- an object ends behind its start, in the container, and what is left behind it is less
 pub step-inside : (bs : List ℕ) (p : Cursor) {h : Header} {start end : ℕ} {n : Cursor} → stepAt bs p ≡ Found h start end n
-    → (start ≤ end) × ((end ≤ length bs) × (length bs - n .at < length bs - p .at))
+    → (start ≤ end) × ((end ≤ length bs) × (left bs n < left bs p))
 step-inside bs p e = let f = found bs p e in omega (arith, f .start-at, f .end-at, f .next-at, f .within)

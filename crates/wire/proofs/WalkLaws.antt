@@ -13,7 +13,7 @@ use Rattle.wire.specs.declared.objects.Header.{Header}
 use Rattle.wire.specs.declared.objects.Cursor.{Cursor}
 use Rattle.wire.specs.declared.objects.Step.{Step}
 use Rattle.wire.specs.declared.objects.Step.the-variants.{Found, CutShort, End}
-use Rattle.wire.specs.Step.{firstPlace, stepAt, objectIn}
+use Rattle.wire.specs.Step.{firstCursor, stepAt, objectIn}
 use Rattle.wire.specs.Walk.{after, walkUpTo, walk, Walks}
 use Rattle.wire.proofs.StepLaws.{found, bytes-at, split-found, split-short, split-end}
 
@@ -21,7 +21,7 @@ use Rattle.wire.proofs.StepLaws.{found, bytes-at, split-found, split-sh
 pub record Walked (bs : List ℕ) (p : Cursor) (earlier : List Object) : Type 0 where
   pub here : drop 2 bs ≡ join earlier ++ drop (p .at) bs
 
-pub walk-first : (bs : List ℕ) → Walked bs firstPlace []
+pub walk-first : (bs : List ℕ) → Walked bs firstCursor []
 unfolding join
 walk-first bs = record { here = refl }
 
@@ -79,4 +79,4 @@ walk-split (suc k) bs p h = go (stepAt bs p) refl (λ n l. walk-split k bs n l)
 
 pub walks : Walks
 unfolding walk
-walks bs = walk-split (suc (length bs)) bs firstPlace (omega arith)
+walks bs = walk-split (suc (length bs)) bs firstCursor (omega arith)

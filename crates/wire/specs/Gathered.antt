@@ -9,7 +9,7 @@ use Rattle.model.specs.Constraint.{hopCount}
 use Rattle.wire.specs.declared.container.Gathered.{Gathered}
 use Rattle.wire.specs.Seen.{Marks}
 
--- the first bar among the objects, with its index; and as long as there is none, the uses seen and the count of the HP metric
+-- the first bar among the objects, with its index; as long as there is none, the number of objects in its place, the uses seen and the count of the HP metric
 pub record Gathers (g : Gathered) (es : List Object) : Type 0 where
   pub number : g .number ≡ firstOf objectBar (standings [] es)
   pub place : g .place ≡ indexOf objectBar (standings [] es)

@@ -1,4 +1,4 @@
--- A container that is read, as code tells it: document 01's number and values for each case of the enum.
+-- A container that is read, in the enum of code: document 01's number and values for each case.
 use lib.ListN.{length}
 use Rattle.model.specs.Reading as model
 use Rattle.model.specs.Constraint.{summary}
@@ -6,6 +6,6 @@ use Rattle.wire.specs.declared.container.Reading.{Reading}
 use Rattle.wire.specs.declared.container.Reading.the-variants.{Refused, WellFormed}
 
 -- refused by a bar at the index of its object; or well-formed, with the number of objects and the count of the HP metric
-abbrev pub told : model.Reading → Reading
-told (model.refused n p) = Refused n p
-told (model.wellFormed os) = WellFormed (length os) (summary os)
+abbrev pub readingOf : model.Reading → Reading
+readingOf (model.refused n p) = Refused n p
+readingOf (model.wellFormed os) = WellFormed (length os) (summary os)

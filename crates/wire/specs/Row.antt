@@ -1,9 +1,16 @@
 -- The model's row of a type, as code has it.
-use Prim.Native.Nat.{ℕ, _+_, _^_}
+use mathlib.Core.Path.{_≡_}
+use Prim.Native.Nat.{ℕ, _+_, _/_, _%_, _^_}
+use mathlib.Core.Bool.{Bool}
 use mathlib.Core.List.{List, [], _∷_}
+use Rattle.model.specs.Number.{isSet}
 use Rattle.model.specs.Object.{Kind, kindOf}
-use Rattle.model.specs.Table.{row}
+use Rattle.model.specs.Table.{row, allowed}
 use Rattle.wire.specs.declared.table.Row.{Row}
+
+-- bit k of a number is 1
+unfoldable pub hasBit : (n k : ℕ) → Bool
+hasBit n k = isSet (n / 2 ^ k % 2)
 
 -- numbers as the bits of a mask
 abbrev pub maskOf : List ℕ → ℕ
@@ -17,3 +24,7 @@ rowIn k = record { base = row k .base; tlvs = row k .tlvs; records = row k .reco
 -- the row of a type
 unfoldable pub rowFor : (type : ℕ) → Row
 rowFor t = rowIn (kindOf t)
+
+-- bit a of a type's mask is 1 exactly where the model's table allows A = a
+abbrev pub MasksExact : Type 0
+MasksExact = (type a : ℕ) → hasBit (rowFor type .allows) a ≡ allowed (kindOf type) a

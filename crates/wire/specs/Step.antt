@@ -11,8 +11,8 @@ use Rattle.wire.specs.declared.objects.Step.{Step}
 use Rattle.wire.specs.declared.objects.Step.the-variants.{Found, CutShort, End}
 
 -- behind byte 0x02 and the data length
-abbrev pub firstPlace : Cursor
-firstPlace = record { at = 2 }
+abbrev pub firstCursor : Cursor
+firstCursor = record { at = 2 }
 
 -- the header whose bytes begin at an index
 abbrev pub headerAt : List ℕ → (at : ℕ) → Header

@@ -9,7 +9,7 @@ use Rattle.model.specs.Reading.{dataObjects}
 use Rattle.wire.specs.declared.objects.Cursor.{Cursor}
 use Rattle.wire.specs.declared.objects.Step.{Step}
 use Rattle.wire.specs.declared.objects.Step.the-variants.{Found, CutShort, End}
-use Rattle.wire.specs.Step.{firstPlace, stepAt, objectIn}
+use Rattle.wire.specs.Step.{firstCursor, stepAt, objectIn}
 
 -- the objects from a place on, by the step there and the objects from the next place on; none where something is cut short
 abbrev pub after : List ℕ → Step → (rest : Cursor → Option (List Object)) → Option (List Object)
@@ -24,7 +24,7 @@ walkUpTo (suc k) bs p = after bs (stepAt bs p) (λ n. walkUpTo k bs n)
 
 -- the objects that steps find in a container, which has no more of them than bytes
 unfoldable pub walk : List ℕ → Option (List Object)
-walk bs = walkUpTo (suc (length bs)) bs firstPlace
+walk bs = walkUpTo (suc (length bs)) bs firstCursor
 
 -- the walk finds the container's objects
 abbrev pub Walks : Type 0

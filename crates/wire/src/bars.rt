@@ -1,6 +1,6 @@
 // Bars 15 to 17 at an object.
 ghost use mathlib.Core.Path.{_≡_};
-ghost use mathlib.Core.Bool.{true};
+ghost use mathlib.Core.Bool.{true, cond};
 ghost use mathlib.Core.List.{List};
 ghost use Rattle.model.specs.Number.{anyOf};
 ghost use Rattle.model.specs.Object.{Object, known, kindOf, roleOf};
@@ -36,6 +36,16 @@ fn is_shaped(header: Header, body: &[u8]) -> bool
     bodies::is_fixed(header.mctype, body)
 }
 
+// 16 for a use that was seen before, else another number.
+fn repeat_or(seen: bool, number: u8) -> u8
+    ensures { λ r. ⌜ r ≡ cond seen 16 number ⌝ }
+{
+    if seen {
+        return 16;
+    }
+    number
+}
+
 // The lowest of 15, 16 and 17 at an object whose use was seen before it or not; 0 for none.
 pub fn object_bar(header: Header, body: &[u8], seen: bool) -> u8
     ensures { λ r. ⌜ ((es : List Object) → (known (kindOf (header .mctype)) ≡ true → seen ≡ anyOf (sameUse (objectOf header (now (body .entry)))) es)
@@ -45,16 +55,10 @@ pub fn object_bar(header: Header, body: &[u8], seen: bool) -> u8
         return 0;
     }
     if is_misused(header) {
-        if seen {
-            return 16;
-        }
-        return 17;
+        return repeat_or(seen, 17);
     }
     if !is_shaped(header, body) {
         return 15;
     }
-    if seen {
-        return 16;
-    }
-    0
+    repeat_or(seen, 0)
 }

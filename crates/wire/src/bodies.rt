@@ -39,8 +39,8 @@ pub fn is_fixed(mctype: u8, body: &[u8]) -> bool
     body.len() == base
 }
 
-// The body of a recorded metric: the lead bytes, and one sub-object or more. The table's sizes make constant divisors; a
-// type without sub-objects has size 0, of which only nothing is a multiple.
+// The body of a recorded metric: the lead bytes, and one sub-object or more. Each size of the table has its own divisor; the
+// size of a type that is never recorded is 0.
 pub fn is_series(mctype: u8, body: &[u8]) -> bool
     ensures { λ r. ⌜ r ≡ recordedShape (row (kindOf mctype)) (now (body .entry)) ⌝ }
 {

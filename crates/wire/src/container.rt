@@ -1,13 +1,14 @@
 // A whole container: bars 13 and 14, then the first object with 15, 16 or 17; or what later passes ask of it.
 ghost use mathlib.Core.Path.{_≡_};
-ghost use Prim.Native.Nat.{_<_};
+ghost use Prim.Native.Nat.{_≤_, _<_};
 ghost use mathlib.Core.List.{List, [], _∷_, _++_};
+ghost use lib.ListN.{length};
 ghost use Rattle.model.specs.Object.{Object};
-ghost use Rattle.model.specs.Reading.{misframed, reading};
+ghost use Rattle.model.specs.Reading.{misframed, dataObjects, readObjects, reading};
 ghost use Rattle.model.specs.Constraint.{hopCount};
 ghost use Rattle.wire.specs.Step.{objectOf};
 ghost use Rattle.wire.specs.Gathered.{Gathers, wholeReading};
-ghost use Rattle.wire.specs.Reading.{told};
+ghost use Rattle.wire.specs.Reading.{readingOf};
 use crate::bars;
 use crate::objects;
 use crate::objects::Header;
@@ -16,18 +17,18 @@ use crate::seen;
 use model::Quantity;
 use model::Summary;
 
-// A container that is read: refused by a bar, at the object of index place (255 for none); or well-formed, with the number
-// of its objects and what it tells the tests of its constraints.
+// A container that is read: refused by a bar, at the object of index place (65535 for none); or well-formed, with the number
+// of its objects and what the tests of its constraints ask of it.
 pub enum Reading {
-    Refused { number: u8, place: u8 },
-    WellFormed { count: u8, summary: Summary },
+    Refused { number: u8, place: u16 },
+    WellFormed { count: u16, summary: Summary },
 }
 
 // What is gathered of the objects up to the first with a bar: its number, or 0; its index, or the number of objects; the
 // uses seen; the count of the HP metric.
 pub struct Gathered {
     pub number: u8,
-    pub place: u8,
+    pub place: u16,
     pub seen: u16,
     pub hops: Quantity,
 }
@@ -64,7 +65,7 @@ fn hops_with(hops: Quantity, header: Header, body: &[u8]) -> Quantity
 
 // One object more.
 fn gather(g: Gathered, header: Header, body: &[u8]) -> Gathered
-    requires { ⌜ g .place < 255 ⌝ }
+    requires { ⌜ g .place < 65535 ⌝ }
     ensures { λ r. ⌜ ((es : List Object) → Gathers g es → Gathers r (es ++ (objectOf header (now (body .entry)) ∷ []))) ⌝ }
 {
     if g.number != 0 {
@@ -90,7 +91,7 @@ fn gather(g: Gathered, header: Header, body: &[u8]) -> Gathered
 
 // What is gathered of all objects of a container.
 fn conclude(g: Gathered) -> Reading
-    ensures { λ r. ⌜ ((os : List Object) → Gathers g os → r ≡ told (wholeReading os)) ⌝ }
+    ensures { λ r. ⌜ ((os : List Object) → Gathers g os → r ≡ readingOf (wholeReading os)) ⌝ }
 {
     let hops = g.hops;
     if g.number != 0 {
@@ -105,17 +106,12 @@ fn conclude(g: Gathered) -> Reading
     }
 }
 
-// Reads a container, in one pass over its objects.
-pub fn read(container: &[u8]) -> Reading
-    ensures { λ r. ⌜ r ≡ told (reading (now (container .entry))) ⌝ }
+// Bars 14 to 17, in one pass over the objects of a container that has few enough for their index.
+fn read_objects(container: &[u8]) -> Reading
+    requires { ⌜ length (now container) ≤ 257 ⌝ }
+    ensures { λ r. ⌜ r ≡ readingOf (readObjects (dataObjects (now (container .entry)))) ⌝ }
 {
-    if is_misframed(container) {
-        return Reading::Refused {
-            number: 13,
-            place: 255,
-        };
-    }
-    let mut place = objects::first();
+    let mut cursor = objects::first();
     let mut g = Gathered {
         number: 0,
         place: 0,
@@ -123,7 +119,7 @@ pub fn read(container: &[u8]) -> Reading
         hops: Quantity::Unknown,
     };
     loop {
-        match objects::next(container, place) {
+        match objects::next(container, cursor) {
             Step::Found {
                 header,
                 start,
@@ -131,12 +127,12 @@ pub fn read(container: &[u8]) -> Reading
                 next,
             } => {
                 g = gather(g, header, &container[start..end]);
-                place = next;
+                cursor = next;
             }
             Step::CutShort => {
                 return Reading::Refused {
                     number: 14,
-                    place: 255,
+                    place: 65535,
                 };
             }
             Step::End => {
@@ -144,4 +140,17 @@ pub fn read(container: &[u8]) -> Reading
             }
         }
     }
+}
+
+// Reads a container.
+pub fn read(container: &[u8]) -> Reading
+    ensures { λ r. ⌜ r ≡ readingOf (reading (now (container .entry))) ⌝ }
+{
+    if is_misframed(container) {
+        return Reading::Refused {
+            number: 13,
+            place: 65535,
+        };
+    }
+    read_objects(container)
 }

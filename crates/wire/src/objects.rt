@@ -1,7 +1,7 @@
 // The step from one object of a container to the next, which every pass over a container takes.
 ghost use mathlib.Core.Path.{_≡_};
 ghost use Rattle.model.specs.Object.{isConstraint, isRecorded, roleOf};
-ghost use Rattle.wire.specs.Step.{firstPlace, stepAt};
+ghost use Rattle.wire.specs.Step.{firstCursor, stepAt};
 
 // Header bytes 0 to 2 of an object: its type (Routing-MC-Type); the flags P, C and O; the mode R, A and Prec.
 pub struct Header {
@@ -10,12 +10,12 @@ pub struct Header {
     pub mode: u8,
 }
 
-// A place between two objects of a container: where the next object begins.
+// A place between two objects of a container. Only the step looks into it.
 pub struct Cursor {
-    pub at: usize,
+    at: usize,
 }
 
-// What stands at a place: an object, whose body is the container's bytes from start to end; a header or a body that
+// What stands at a cursor: an object, whose body is the container's bytes from start to end; a header or a body that
 // runs past the end; or nothing more.
 pub enum Step {
     Found {
@@ -28,19 +28,19 @@ pub enum Step {
     End,
 }
 
-// The place before a container's first object.
+// The cursor before a container's first object.
 pub fn first() -> Cursor
-    ensures { λ r. ⌜ r ≡ firstPlace ⌝ }
+    ensures { λ r. ⌜ r ≡ firstCursor ⌝ }
 {
     Cursor { at: 2 }
 }
 
-// What stands at a place of a container.
-pub fn next(container: &[u8], place: Cursor) -> Step
-    ensures { λ r. ⌜ r ≡ stepAt (now (container .entry)) place ⌝ }
+// What stands at a cursor of a container.
+pub fn next(container: &[u8], cursor: Cursor) -> Step
+    ensures { λ r. ⌜ r ≡ stepAt (now (container .entry)) cursor ⌝ }
 {
     let n = container.len();
-    let at = place.at;
+    let at = cursor.at;
     if n <= at {
         return Step::End;
     }

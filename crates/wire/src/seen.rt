@@ -7,12 +7,12 @@ ghost use Rattle.model.specs.Number.{anyOf};
 ghost use Rattle.model.specs.Object.{Object, known, kindOf};
 ghost use Rattle.model.specs.Reading.{sameUse};
 ghost use Rattle.wire.specs.Step.{objectOf};
-ghost use Rattle.wire.specs.Seen.{useBit, Marks};
+ghost use Rattle.wire.specs.Seen.{useIndex, Marks};
 use crate::objects::Header;
 
-// The bit of an object's use.
-fn use_bit(header: Header) -> usize
-    ensures { λ r. ⌜ r ≡ useBit (objectOf header []) ⌝ }
+// The index of the bit for an object's use.
+fn use_index(header: Header) -> usize
+    ensures { λ r. ⌜ r ≡ useIndex (objectOf header []) ⌝ }
 {
     (header.mctype as usize) * 2 + (header.flags / 2 % 2) as usize
 }
@@ -21,7 +21,7 @@ fn use_bit(header: Header) -> usize
 pub fn has(seen: u16, header: Header) -> bool
     ensures { λ r. ⌜ ((es : List Object) → Marks seen es → known (kindOf (header .mctype)) ≡ true → r ≡ anyOf (sameUse (objectOf header [])) es) ⌝ }
 {
-    let k = use_bit(header);
+    let k = use_index(header);
     if k < 16 {
         return (seen >> k) % 2 == 1;
     }
@@ -32,7 +32,7 @@ pub fn has(seen: u16, header: Header) -> bool
 pub fn with(seen: u16, header: Header) -> u16
     ensures { λ r. ⌜ ((es : List Object) (b : List ℕ) → Marks seen es → Marks r (es ++ (objectOf header b ∷ []))) ⌝ }
 {
-    let k = use_bit(header);
+    let k = use_index(header);
     if k < 16 {
         return seen | (1 << k);
     }

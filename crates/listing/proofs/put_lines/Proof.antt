@@ -1,19 +1,17 @@
 -- `put_lines` meets its contract. The loop's invariant: the lines of the objects before the place are put. The measure is what is left of the container.
 use mathlib.Core.Path.{sym, _∙_}
-use Prim.Native.Nat.{_-_}
-use lib.ListN.{length}
 use borrow.Author.Needs.{needs}
 use Rattle.listing.proofs.PutLaws.{put-length}
 use Rattle.listing.proofs.LineLaws.{Lines, lines-first, lines-found, lines-fit, lines-end, lines-cut}
-use Rattle.wire.proofs.StepLaws.{step-inside}
+use Rattle.wire.proofs.StepLaws.{left, step-inside}
 use Rattle.listing.proofs.put_lines.Statement.{statement}
 use Rattle.listing.proofs.put_lines.Tie as tie
 
 abbrev Inv-loop : tie.InvT-loop
-Inv-loop container out₀ place₀ used₀ out place used = Lines container out₀ place used out
+Inv-loop container out₀ cursor₀ used₀ out cursor used = Lines container out₀ cursor used out
 
 abbrev μ-loop : tie.MeasureT-loop
-μ-loop container out₀ place₀ used₀ out place used = length container - place .at
+μ-loop container out₀ cursor₀ used₀ out cursor used = left container cursor
 
 first-requires : tie.Need-first-requires Inv-loop μ-loop
 first-requires c κs = search needs

@@ -1,4 +1,4 @@
--- The place of a bar: the index of the first barring object, counted from 0; 255 for a bar at no object, and for none.
+-- The place of a bar: the index of the first barring object, counted from 0; 65535 for a bar at no object, and for none.
 use Prim.Native.Nat.{ℕ}
 use mathlib.Core.List.{List, [], _∷_, _++_}
 use lib.ListN.{getD}
@@ -15,10 +15,10 @@ other = one 200 0x00 0x80 []
 abbrev pub places : List (Example Calling ℕ)
 places =
     -- unbarred; bars 11, 14 and 20
-    hop own0 neighbour0 other gives 255
-    ∷ hop own0 (ranked 256 1 0 0) other gives 255
-    ∷ hop own0 neighbour0 (other ++ (0xC8 ∷ [])) gives 255
-    ∷ hop own0 (ranked 65535 1 1 0) other gives 255
+    hop own0 neighbour0 other gives 65535
+    ∷ hop own0 (ranked 256 1 0 0) other gives 65535
+    ∷ hop own0 neighbour0 (other ++ (0xC8 ∷ [])) gives 65535
+    ∷ hop own0 (ranked 65535 1 1 0) other gives 65535
     -- 15, first and third
     ∷ hop own0 neighbour0 (one 7 0x00 0x00 (0x00 ∷ []) ++ other) gives 0
     ∷ hop own0 neighbour0 (other ++ other ++ one 7 0x00 0x00 (0x00 ∷ [])) gives 2

@@ -1,62 +1,62 @@
 use Rattle.wire.specs.Step.{objectOf}
 use Rattle.wire.proofs.BarLaws.{bar-unknown, bar-misused, bar-malformed, bar-shaped}
 use mathlib.Core.Path.{sym, _∙_}
-use mathlib.Core.Bool.{true, false}
 use borrow.Author.Tests.{not-true, not-false}
 use borrow.Author.Needs.{needs}
 use Rattle.wire.proofs.bars.object_bar.Statement.{statement}
 use Rattle.wire.proofs.bars.object_bar.Tie as tie
 
+-- src/bars.rt:54:9
 is-known-requires : tie.Need-is-known-requires
 is-known-requires c κs = search needs
 
+-- src/bars.rt:55:9
 returns : tie.Need-returns
 returns c = λ es s.
     let args = c .before .before .before .args in
     bar-unknown es (objectOf (args .header) (args .body .now)) (sym (c .before .is-known .ensures) ∙ not-true _ (c .if1 .taken))
 
+-- src/bars.rt:57:8
 is-misused-requires : tie.Need-is-misused-requires
 is-misused-requires c κs = search needs
 
+-- src/bars.rt:58:9
+repeat-or-requires : tie.Need-repeat-or-requires
+repeat-or-requires c κs = search needs
+
+-- src/bars.rt:58:9
 returns-2 : tie.Need-returns-2
 returns-2 c = λ es s.
     let tested = c .before .before in
     let args = tested .before .before .before .before .args in
     let k = sym (tested .before .before .is-known .ensures) ∙ not-false _ (tested .before .if1 .left) in
-    bar-misused es (objectOf (args .header) (args .body .now)) true k (sym (tested .is-misused .ensures) ∙ c .before .if2 .taken) (sym (c .if3 .taken) ∙ s k)
+    c .repeat-or .ensures ∙ bar-misused es (objectOf (args .header) (args .body .now)) _ k (sym (tested .is-misused .ensures) ∙ c .before .if2 .taken) (s k)
 
-returns-3 : tie.Need-returns-3
-returns-3 c = λ es s.
-    let tested = c .before .before in
-    let args = tested .before .before .before .before .args in
-    let k = sym (tested .before .before .is-known .ensures) ∙ not-false _ (tested .before .if1 .left) in
-    bar-misused es (objectOf (args .header) (args .body .now)) false k (sym (tested .is-misused .ensures) ∙ c .before .if2 .taken) (sym (c .if3 .left) ∙ s k)
-
+-- src/bars.rt:60:9
 is-shaped-requires : tie.Need-is-shaped-requires
 is-shaped-requires c κs = search needs
 
-returns-4 : tie.Need-returns-4
-returns-4 c = λ es s.
+-- src/bars.rt:61:9
+returns-3 : tie.Need-returns-3
+returns-3 c = λ es s.
     let tested = c .before .before .before in
     let args = tested .before .before .before .before .args in
     let k = sym (tested .before .before .is-known .ensures) ∙ not-false _ (tested .before .if1 .left) in
-    bar-malformed es (objectOf (args .header) (args .body .now)) k (sym (tested .is-misused .ensures) ∙ c .before .before .if2 .left) (sym (c .before .is-shaped .ensures) ∙ not-true _ (c .if4 .taken))
+    bar-malformed es (objectOf (args .header) (args .body .now)) k (sym (tested .is-misused .ensures) ∙ c .before .before .if2 .left) (sym (c .before .is-shaped .ensures) ∙ not-true _ (c .if3 .taken))
 
-returns-5 : tie.Need-returns-5
-returns-5 c = λ es s.
+-- src/bars.rt:63:5
+repeat-or-requires-2 : tie.Need-repeat-or-requires-2
+repeat-or-requires-2 c κs = search needs
+
+-- src/bars.rt:50:1
+returns-4 : tie.Need-returns-4
+returns-4 c = λ es s.
     let tested = c .before .before .before .before in
     let args = tested .before .before .before .before .args in
     let k = sym (tested .before .before .is-known .ensures) ∙ not-false _ (tested .before .if1 .left) in
-    bar-shaped es (objectOf (args .header) (args .body .now)) true k (sym (tested .is-misused .ensures) ∙ c .before .before .before .if2 .left)
-    (sym (c .before .before .is-shaped .ensures) ∙ not-false _ (c .before .if4 .left)) (sym (c .if5 .taken) ∙ s k)
-
-returns-6 : tie.Need-returns-6
-returns-6 c = λ es s.
-    let tested = c .before .before .before .before in
-    let args = tested .before .before .before .before .args in
-    let k = sym (tested .before .before .is-known .ensures) ∙ not-false _ (tested .before .if1 .left) in
-    bar-shaped es (objectOf (args .header) (args .body .now)) false k (sym (tested .is-misused .ensures) ∙ c .before .before .before .if2 .left)
-    (sym (c .before .before .is-shaped .ensures) ∙ not-false _ (c .before .if4 .left)) (sym (c .if5 .left) ∙ s k)
+    c .repeat-or2 .ensures
+    ∙ bar-shaped es (objectOf (args .header) (args .body .now)) _ k (sym (tested .is-misused .ensures) ∙ c .before .before .before .if2 .left)
+    (sym (c .before .before .is-shaped .ensures) ∙ not-false _ (c .before .if3 .left)) (s k)
 
 pub object-bar-spec : {M : Type 1} → statement M
 object-bar-spec =
@@ -65,9 +65,9 @@ object-bar-spec =
     is-known-requires
     returns
     is-misused-requires
+    repeat-or-requires
     returns-2
-    returns-3
     is-shaped-requires
-    returns-4
-    returns-5
-    returns-6)
+    returns-3
+    repeat-or-requires-2
+    returns-4)

@@ -24,7 +24,7 @@ shared-slice-read-size : tie.Need-shared-slice-read-size
 shared-slice-read-size c = search needs
 
 cast-size : tie.Need-cast-size
-cast-size c = omega (arith, c .shared-slice-known .given (c .before .before .before .args .place .at + 3))
+cast-size c = omega (arith, c .shared-slice-known .given (c .before .before .before .args .cursor .at + 3))
 
 add-start : tie.Need-add-start
 add-start c = search needs

@@ -4,8 +4,8 @@ use borrow.Author.Needs.{needs}
 use Rattle.wire.proofs.seen.with.Statement.{statement}
 use Rattle.wire.proofs.seen.with.Tie as tie
 
-use-bit-requires : tie.Need-use-bit-requires
-use-bit-requires c κs = search needs
+use-index-requires : tie.Need-use-index-requires
+use-index-requires c κs = search needs
 
 cast-result : tie.Need-cast-result
 cast-result c = search needs
@@ -14,10 +14,10 @@ shl-result : tie.Need-shl-result
 shl-result c = search needs
 
 returns : tie.Need-returns
-returns c = λ es b m. marks-with _ es (objectOf (c .before .before .args .header) b) _ m (c .before .use-bit .ensures) (c .if1 .taken)
+returns c = λ es b m. marks-with _ es (objectOf (c .before .before .args .header) b) _ m (c .before .use-index .ensures) (c .if1 .taken)
 
 returns-2 : tie.Need-returns-2
-returns-2 c = λ es b m. marks-past _ es (objectOf (c .before .before .args .header) b) _ m (c .before .use-bit .ensures) (c .if1 .left)
+returns-2 c = λ es b m. marks-past _ es (objectOf (c .before .before .args .header) b) _ m (c .before .use-index .ensures) (c .if1 .left)
 
 pub with-spec : {M : Type 1} → statement M
-with-spec = tie.close (tie.spec use-bit-requires cast-result shl-result returns returns-2)
+with-spec = tie.close (tie.spec use-index-requires cast-result shl-result returns returns-2)
