@@ -9,8 +9,7 @@ use lib.ListN.{length, set, length-append}
 use lib.Seq.{sets, length-sets}
 use lib.Dec.{ltb}
 use borrow.Author.Tests.{ltb-false}
-use Rattle.model.specs.Listing.{space, digit, decimal, line}
-use Rattle.listing.specs.declared.Listed.the-variants.{Text}
+use Rattle.model.specs.Listing.{space, digit, decimal}
 use Rattle.listing.specs.Put.{Put, numberAnd}
 
 -- ---- one text behind another

@@ -1,6 +1,6 @@
 -- Bars 15 to 17 at an object, by the tests that code makes.
 use mathlib.Core.Path.{_≡_}
-use mathlib.Core.Bool.{Bool, true, false, not}
+use mathlib.Core.Bool.{Bool, true, false}
 use mathlib.Core.List.{List}
 use Rattle.model.specs.Number.{anyOf}
 use Rattle.model.specs.Object.{Object, kind, role, known}

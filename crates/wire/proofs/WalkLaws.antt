@@ -6,7 +6,7 @@ use native.Mathlib.Omega.{arith}
 use mathlib.Core.List.{List, [], _∷_, _++_, append-assoc, append-nil}
 use mathlib.Core.Option.{Option, none, some, Option·none-ne-some}
 use lib.ListN.{length, drop, length-append, length-drop}
-use Rattle.model.specs.Object.{Object, object, before, split, join, bytesOf}
+use Rattle.model.specs.Object.{Object, before, split, join, bytesOf}
 use Rattle.model.specs.Reading.{dataObjects}
 use Rattle.model.proofs.ObjectLaws.{behind, split-append, join-append, join-four}
 use Rattle.wire.specs.declared.objects.Header.{Header}
