@@ -3,7 +3,7 @@ use libc::STDIN_FILENO;
 use libc::STDOUT_FILENO;
 use listing::Listed;
 
-// A container has 257 bytes at most: 258 bytes that begin an input say as much as all of it.
+// A container has 257 bytes at most, so the first 258 bytes of any input have its listing (ListingOfFront).
 fn main() {
     let mut input = [0u8; 258];
     let mut text = [0u8; listing::TEXT_ROOM];

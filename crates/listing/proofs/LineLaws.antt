@@ -47,13 +47,13 @@ unfolding objectLines
 lines-append [] o = append-nil (objectLine o)
 lines-append (e ∷ es) o = rw (lines-append es o, append-assoc (objectLine e) (objectLines es) (objectLine o))
 
--- the lines of the objects before a place, put into an output
+-- the lines of the objects before a cursor, put into an output
 pub record Lines (bs output : List ℕ) (p : Cursor) (used : ℕ) (left : List ℕ) : Type 0 where
   pub earlier : List Object
   pub walked : Walked bs p earlier
   pub put : Put output 0 (objectLines earlier) used left
 
--- there are none before the first place
+-- there are none before the first cursor
 pub lines-first : (bs output : List ℕ) → Lines bs output firstCursor 0 output
 unfolding objectLines
 lines-first bs output = record { earlier = []; walked = walk-first bs; put = record { end = refl; written = refl } }

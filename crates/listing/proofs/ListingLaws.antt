@@ -1,6 +1,6 @@
 -- The text of what was read.
 use mathlib.Core.Path.{_≡_, refl, sym, ap, _∙_}
-use Prim.Native.Nat.{ℕ, suc, _+_, _≤_}
+use Prim.Native.Nat.{ℕ, _+_, _≤_}
 use native.Mathlib.Nat.{zero-add}
 use native.Mathlib.Omega.{arith}
 use mathlib.Core.Bool.{Bool, true, false, cond}
@@ -17,7 +17,7 @@ use Rattle.model.specs.Reading as model
 use Rattle.model.specs.RoundTrip.{Bytes}
 use Rattle.model.specs.Listing.{newline, decimal, line, objectLines, refusedWord, listingOf, listing}
 use Rattle.model.proofs.ByteLaws.{first-byte}
-use Rattle.model.proofs.ReadingLaws.{framed-short, reading-objects}
+use Rattle.model.proofs.ReadingLaws.{frame-short, framed-short, reading-objects}
 use Rattle.wire.specs.declared.container.Reading.the-variants.{Refused, WellFormed}
 use Rattle.listing.specs.declared.Listed.{Listed}
 use Rattle.listing.specs.declared.Listed.the-variants.{Text, ShortOutput}
@@ -29,11 +29,7 @@ use Rattle.listing.proofs.LineLaws.{lines-room}
 
 -- byte 1 of a well-formed container is the length of its data
 data-short : (bs : List ℕ) (os : List Object) → reading bs ≡ model.wellFormed os → getD bs 1 0 ≤ 255 → (length (join os) ≤ 255) × (length bs ≤ 257)
-data-short bs os e l =
-    let w = reading-objects bs os e .whole in
-    let s : getD bs 1 0 ≡ length (join os) = rw w in
-    let t : length bs ≡ suc (suc (length (join os))) = rw w in
-    omega arith
+data-short bs os e l = frame-short bs (join os) (reading-objects bs os e .whole) l
 
 -- any text fits, where byte 1 is a byte
 text-short : (bs : List ℕ) → getD bs 1 0 ≤ 255 → length (listing bs) ≤ textRoom
@@ -53,7 +49,7 @@ byte-one (a ∷ b ∷ bs) h = first-byte b bs (first-byte a (b ∷ bs) h .1) .0
 pub text-fits : TextFits
 text-fits bs h = text-short bs (byte-one bs h)
 
--- the objects of a container that is readingOf to be well-formed
+-- the objects of a container that code reads as well-formed
 well-formed : (bs : List ℕ) {count : ℕ} {summary : Summary} → readingOf (reading bs) ≡ WellFormed count summary → (os : List Object) × (reading bs ≡ model.wellFormed os)
 well-formed bs {count} {summary} e = go (reading bs) refl e
   where
@@ -71,7 +67,7 @@ pub well-text : (bs : List ℕ) {output left : List ℕ} {count r : ℕ} {summar
 unfolding listing
 well-text bs e q = let (os, r) = well-formed bs e in rw r (q os (reading-objects bs os r .objects))
 
--- the text of a container that is readingOf to be refused
+-- the text of a container that code reads as refused
 pub refused-text : (bs : List ℕ) {output left : List ℕ} {n place r : ℕ} → readingOf (reading bs) ≡ Refused n place
     → Put output 0 (refusedWord ++ line n []) r left → Put output 0 (listing bs) r left
 unfolding listing
@@ -91,7 +87,7 @@ listed-by bs output {left} {r} l m p =
     let e : left ≡ listing bs ++ drop (length (listing bs)) output = p .written ∙ sets-eq (listing bs) output 0 fits ∙ rw z in
     rw (le-ltb (length output) textRoom l) (ap Text (p .end ∙ z), e)
 
--- a text that is readingOf lies in the output
+-- a text that is answered lies in the output
 pub listed-inside : (bs output left : List ℕ) {r : Listed} {size : ℕ} → r ≡ listed bs (length output) → r ≡ Text size → left ≡ listedIn bs output → size ≤ length left
 unfolding listed listedIn
 listed-inside bs output left {r} {size} e t w = go (ltb (length output) textRoom) (sym e ∙ t) w

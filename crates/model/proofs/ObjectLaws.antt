@@ -1,9 +1,9 @@
 -- `split` and `join` undo each other, also with bytes behind.
-use mathlib.Core.Path.{_≡_, refl}
+use mathlib.Core.Path.{_≡_, refl, sym, ap, _∙_}
 use Prim.Native.Nat.{ℕ, zero, suc, _*_, _≤_}
-use native.Mathlib.Nat.{le-of-suc-le-suc, not-suc-le-zero}
+use native.Mathlib.Nat.{not-suc-le-zero}
 use mathlib.Core.Bool.{Bool, true, false, cond}
-use mathlib.Core.List.{List, [], _∷_, _++_, append-assoc}
+use mathlib.Core.List.{List, [], _∷_, _++_, append-assoc, append-nil}
 use mathlib.Core.Option.{Option, none, some, Option·none-ne-some}
 use native.Mathlib.Omega.{arith}
 use lib.ListN.{length, take, drop, length-append, take-append-drop, length-drop}
@@ -11,24 +11,6 @@ use lib.Seq.{length-take-le, take-append-seam, drop-append-seam}
 use lib.Dec.{leb}
 use borrow.Author.Tests.{le-leb, leb-true}
 use Rattle.model.specs.Object.{Object, object, before, splitUpTo, split, join}
-
-splitUpTo-join : (os : List Object) (k : ℕ) → length os ≤ k → splitUpTo k (join os) ≡ some os
-unfolding splitUpTo join
-splitUpTo-join [] zero h = refl
-splitUpTo-join [] (suc k) h = refl
-splitUpTo-join (o ∷ os) zero h = absurd (not-suc-le-zero h)
-splitUpTo-join (o ∷ os) (suc k) h =
-    let fits : length (o .body) ≤ length (o .body ++ join os) = simp length-append (omega arith) in
-    rw (le-leb (length (o .body)) (length (o .body ++ join os)) fits, take-append-seam (o .body) (join os), drop-append-seam (o .body) (join os), splitUpTo-join os k (le-of-suc-le-suc h))
-
-length-join : (os : List Object) → length os ≤ length (join os)
-unfolding join
-length-join [] = omega arith
-length-join (o ∷ os) = let ih = length-join os in omega (arith, length-append (o .body) (join os))
-
-pub split-join : (os : List Object) → split (join os) ≡ some os
-unfolding split
-split-join os = splitUpTo-join os (length (join os)) (length-join os)
 
 -- what a step of `splitUpTo` says where it gives objects
 step : (n : ℕ) (rest : List ℕ) (o : Object) (r : Option (List Object)) (os : List Object) (b : Bool) → leb n (length rest) ≡ b
@@ -102,6 +84,10 @@ split-append (o ∷ s) bs =
     let fits : length (o .body) ≤ length (o .body ++ (join s ++ bs)) = simp length-append (omega arith) in
     rw (append-assoc (o .body) (join s) bs, split-step (o .type) (o .flags) (o .mode) (length (o .body)) (o .body ++ (join s ++ bs)), le-leb (length (o .body)) (length (o .body ++ (join s ++ bs))) fits, take-append-seam (o .body) (join s ++ bs), drop-append-seam (o .body) (join s ++ bs), split-append s bs)
     (before-behind o s (split bs))
+
+pub split-join : (os : List Object) → split (join os) ≡ some os
+unfolding split splitUpTo
+split-join os = ap split (sym (append-nil (join os))) ∙ split-append os [] ∙ ap some (append-nil os)
 
 -- an object has four bytes or more
 pub join-four : (s : List Object) → 4 * length s ≤ length (join s)

@@ -39,13 +39,15 @@ framed (a ∷ d ∷ bs) e =
     let y = eqb-true d (length bs) (not-false (eqb d (length bs)) q) in
     cc
 
--- a container that is framed has no more bytes than its byte 1 says
-pub framed-short : (bs : List ℕ) → misframed bs ≡ false → getD bs 1 0 ≤ 255 → length bs ≤ 257
-framed-short bs e l =
-    let w = framed bs e in
-    let s : getD bs 1 0 ≡ length (drop 2 bs) = rw w in
-    let t : length bs ≡ suc (suc (length (drop 2 bs))) = rw w in
+-- a frame has no more bytes than its byte 1 says
+pub frame-short : (bs ds : List ℕ) → bs ≡ 2 ∷ length ds ∷ ds → getD bs 1 0 ≤ 255 → (length ds ≤ 255) × (length bs ≤ 257)
+frame-short bs ds w l =
+    let s : getD bs 1 0 ≡ length ds = rw w in
+    let t : length bs ≡ suc (suc (length ds)) = rw w in
     omega arith
+
+pub framed-short : (bs : List ℕ) → misframed bs ≡ false → getD bs 1 0 ≤ 255 → length bs ≤ 257
+framed-short bs e l = frame-short bs (drop 2 bs) (framed bs e) l .1
 
 readAs-objects : (n p : ℕ) (ts os : List Object) → readAs n p ts ≡ wellFormed os → (n ≡ 0) × (ts ≡ os)
 readAs-objects zero p ts os e = (refl, cc)

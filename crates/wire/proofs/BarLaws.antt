@@ -1,6 +1,6 @@
 -- Bars 15 to 17 at an object, by the tests that code makes.
 use mathlib.Core.Path.{_≡_}
-use mathlib.Core.Bool.{Bool, true, false}
+use mathlib.Core.Bool.{Bool, true, false, cond}
 use mathlib.Core.List.{List}
 use Rattle.model.specs.Number.{anyOf}
 use Rattle.model.specs.Object.{Object, kind, role, known}
@@ -15,7 +15,7 @@ module _ (es : List Object) (o : Object) where
 
   -- a known type, seen with this C or not, that is misused
   pub bar-misused : (seen : Bool) → known (kind o) ≡ true → cannotBe (role o) (row (kind o)) ≡ true → seen ≡ anyOf (sameUse o) es
-      → mathlib.Core.Bool.cond seen 16 17 ≡ objectBar (record { earlier = es; object = o })
+      → cond seen 16 17 ≡ objectBar (record { earlier = es; object = o })
   unfolding objectBar
   bar-misused seen k m s = rw (k, m, ← s)
 
@@ -27,6 +27,6 @@ module _ (es : List Object) (o : Object) where
 
   -- a known type, seen with this C or not, with nothing else against it
   pub bar-shaped : (seen : Bool) → known (kind o) ≡ true → cannotBe (role o) (row (kind o)) ≡ false → shaped (role o) (row (kind o)) (o .body) ≡ true
-      → seen ≡ anyOf (sameUse o) es → mathlib.Core.Bool.cond seen 16 0 ≡ objectBar (record { earlier = es; object = o })
+      → seen ≡ anyOf (sameUse o) es → cond seen 16 0 ≡ objectBar (record { earlier = es; object = o })
   unfolding objectBar
   bar-shaped seen k m b s = rw (k, m, b, ← s)

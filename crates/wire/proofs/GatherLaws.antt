@@ -7,13 +7,11 @@ use Rattle.model.specs.Number.{first, firstOf, indexOf}
 use Rattle.model.specs.Object.{Object, standings}
 use Rattle.model.specs.Reading.{objectBar, readAs}
 use Rattle.model.specs.Constraint.{hopCount}
-use Rattle.model.specs.declared.Quantity.{Quantity}
-use Rattle.model.specs.declared.Quantity.the-variants.{Unknown}
 use Rattle.model.proofs.FirstLaws.{first-snoc, index-none, index-snoc, index-le, standings-snoc, length-standings}
 use Rattle.wire.specs.declared.container.Gathered.{Gathered}
 use Rattle.wire.specs.declared.container.Reading.the-variants.{Refused, WellFormed}
 use Rattle.wire.specs.Seen.{Marks}
-use Rattle.wire.specs.Gathered.{Gathers, wholeReading}
+use Rattle.wire.specs.Gathered.{hopsIn, Gathers, wholeReading}
 use Rattle.wire.specs.Reading.{readingOf}
 use Rattle.wire.proofs.SeenLaws.{no-marks}
 
@@ -37,7 +35,7 @@ place-none os e = index-none objectBar (standings [] os) e ∙ length-standings 
 
 -- ---- what is gathered
 
-pub gathers-none : Gathers (record { number = 0; place = 0; seen = 0; hops = Unknown }) []
+pub gathers-none : Gathers (record { number = 0; place = 0; seen = 0; hops = 256 }) []
 unfolding firstOf indexOf standings hopCount
 gathers-none = record { number = refl; place = refl; seen = λ e. no-marks; hops = λ e. refl }
 
@@ -64,7 +62,7 @@ module _ (g : Gathered) (es : List Object) (o : Object) (w : Gathers g es) where
       record { number = q; place = w .place ∙ sym (place-snoc es o (λ x. h (q ∙ x))); seen = λ x. absurd (h x); hops = λ x. absurd (h x) }
 
   -- no bar
-  pub gathers-more : (s : ℕ) (q : Quantity) → g .number ≡ 0 → 0 ≡ objectBar (record { earlier = es; object = o }) → Marks s (es ++ (o ∷ [])) → q ≡ hopCount (es ++ (o ∷ []))
+  pub gathers-more : (s q : ℕ) → g .number ≡ 0 → 0 ≡ objectBar (record { earlier = es; object = o }) → Marks s (es ++ (o ∷ [])) → hopsIn q ≡ hopCount (es ++ (o ∷ []))
       → Gathers (record { number = 0; place = g .place + 1; seen = s; hops = q }) (es ++ (o ∷ []))
   gathers-more s q z e m p =
       let n : barAmong (es ++ (o ∷ [])) ≡ 0 = bar-snoc es o ∙ rw (← w .number, z) (sym e) in
@@ -76,7 +74,7 @@ module _ (g : Gathered) (es : List Object) (o : Object) (w : Gathers g es) where
         hops = λ x. p;
       }
 
--- what is gathered of all objects tells the reading
+-- what is gathered of all objects gives the reading
 pub gathers-refused : (g : Gathered) (os : List Object) → Gathers g os → (g .number ≡ 0 → ⊥) → Refused (g .number) (g .place) ≡ readingOf (wholeReading os)
 gathers-refused g os w h = rw (w .number, w .place) (go (barAmong os) (λ e. h (w .number ∙ e)))
   where
@@ -84,7 +82,7 @@ gathers-refused g os w h = rw (w .number, w .place) (go (barAmong os) (λ e. h (
     go zero h = absurd (h refl)
     go (suc n) h = refl
 
-pub gathers-whole : (g : Gathered) (os : List Object) → Gathers g os → g .number ≡ 0 → WellFormed (g .place) (record { hops = g .hops }) ≡ readingOf (wholeReading os)
+pub gathers-whole : (g : Gathered) (os : List Object) → Gathers g os → g .number ≡ 0 → WellFormed (g .place) (record { hops = hopsIn (g .hops) }) ≡ readingOf (wholeReading os)
 gathers-whole g os w z =
     let n : barAmong os ≡ 0 = sym (w .number) ∙ z in
     rw (w .place, w .hops z, place-none os n, n)

@@ -1,10 +1,11 @@
 -- The count of the HP metric, where an object comes behind others.
 use mathlib.Core.Path.{_≡_, refl}
-use Prim.Native.Nat.{ℕ}
+use Prim.Native.Nat.{ℕ, _≤_, _<_}
 use mathlib.Core.Bool.{Bool, true, false, cond, _&&_, _||_, not}
 use mathlib.Core.List.{List, [], _∷_, _++_}
 use lib.ListN.{getD}
 use lib.Dec.{eqb}
+use borrow.Author.Tests.{lt-ltb, le-ltb}
 use Rattle.model.specs.Object.{Object, kind, isHp, role, roleOf, isConstraint}
 use Rattle.model.specs.Constraint.{hopCount}
 use Rattle.model.specs.declared.Quantity.{Quantity}
@@ -12,6 +13,7 @@ use Rattle.model.specs.declared.Quantity.the-variants.{Known, Unknown}
 use Rattle.model.proofs.TypeLaws.{hp-type}
 use Rattle.wire.specs.declared.objects.Header.{Header}
 use Rattle.wire.specs.Step.{objectOf}
+use Rattle.wire.specs.Gathered.{hopsIn}
 
 -- an HP metric
 abbrev isHops : Object → Bool
@@ -50,10 +52,10 @@ hops-other h b q es c k t e = rw (hops-snoc es (objectOf h b), hops-test h b c k
     go Unknown = refl
 
 -- an HP metric behind another
-pub hops-kept : (h : Header) (b : List ℕ) (v : ℕ) (es : List Object) → Known v ≡ hopCount es → Known v ≡ hopCount (es ++ (objectOf h b ∷ []))
-hops-kept h b v es e = rw (hops-snoc es (objectOf h b), ← e)
+pub hops-kept : (h : Header) (b : List ℕ) (v : ℕ) (es : List Object) → v < 256 → hopsIn v ≡ hopCount es → hopsIn v ≡ hopCount (es ++ (objectOf h b ∷ []))
+hops-kept h b v es l e = rw (hops-snoc es (objectOf h b), ← e, lt-ltb v 256 l)
 
 -- the first HP metric
-pub hops-first : (h : Header) (b : List ℕ) (es : List Object) (c : Bool) → c ≡ isConstraint (roleOf (h .flags) (h .mode)) → not (eqb (h .mctype) 3) || c ≡ false
-    → Unknown ≡ hopCount es → Known (getD b 1 0) ≡ hopCount (es ++ (objectOf h b ∷ []))
-hops-first h b es c k t e = rw (hops-snoc es (objectOf h b), hops-test h b c k, t, ← e)
+pub hops-first : (h : Header) (b : List ℕ) (v : ℕ) (es : List Object) (c : Bool) → c ≡ isConstraint (roleOf (h .flags) (h .mode)) → not (eqb (h .mctype) 3) || c ≡ false
+    → 256 ≤ v → hopsIn v ≡ hopCount es → Known (getD b 1 0) ≡ hopCount (es ++ (objectOf h b ∷ []))
+hops-first h b v es c k t l e = rw (hops-snoc es (objectOf h b), hops-test h b c k, t, ← e, le-ltb v 256 l)

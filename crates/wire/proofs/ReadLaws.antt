@@ -1,4 +1,4 @@
--- The reading pass at a place of a container, and where it ends.
+-- The reading pass at a cursor of a container, and where it ends.
 use mathlib.Core.Path.{_≡_}
 use Prim.Native.Nat.{ℕ, _≤_, _<_}
 use native.Mathlib.Omega.{arith}
@@ -7,7 +7,6 @@ use mathlib.Core.List.{List, [], _∷_, _++_}
 use lib.ListN.{length}
 use Rattle.model.specs.Object.{Object}
 use Rattle.model.specs.Reading.{misframed, dataObjects, readObjects, reading}
-use Rattle.model.specs.declared.Quantity.the-variants.{Unknown}
 use Rattle.wire.specs.declared.objects.Header.{Header}
 use Rattle.wire.specs.declared.objects.Cursor.{Cursor}
 use Rattle.wire.specs.declared.objects.Step.the-variants.{Found, CutShort, End}
@@ -20,13 +19,13 @@ use Rattle.wire.specs.Reading.{readingOf}
 use Rattle.wire.proofs.WalkLaws.{Walked, walk-first, walk-found, walk-end, walk-short, walk-count}
 use Rattle.wire.proofs.GatherLaws.{gathers-none, gathers-le}
 
--- the objects before a place, and what is gathered of them
+-- the objects before a cursor, and what is gathered of them
 pub record Pass (bs : List ℕ) (p : Cursor) (g : Gathered) : Type 0 where
   pub earlier : List Object
   pub walked : Walked bs p earlier
   pub gathers : Gathers g earlier
 
-pub pass-first : (bs : List ℕ) (p : Cursor) → p ≡ firstCursor → Pass bs p (record { number = 0; place = 0; seen = 0; hops = Unknown })
+pub pass-first : (bs : List ℕ) (p : Cursor) → p ≡ firstCursor → Pass bs p (record { number = 0; place = 0; seen = 0; hops = 256 })
 pass-first bs p e = rw e (record { earlier = []; walked = walk-first bs; gathers = gathers-none })
 
 -- one object more

@@ -64,9 +64,13 @@ not-in (a ∷ xs) b h =
     let (p, q) = neither (ltb 2 a) (anyOf (λ a. ltb 2 a) xs) h in
     rw (ne-eqb (suc (suc (suc b))) a (λ e. omega (arith, ltb-false 2 a p)), not-in xs b q)
 
--- the mask of a kind agrees with its row below 3, and neither has more
+-- the mask of a kind agrees with its row at an A
+abbrev agreesAt : Kind → ℕ → Bool
+agreesAt k a = Bool·beq (hasBit (maskOf (row k .allows)) a) (allowed k a)
+
+-- it does below 3, and neither has more
 abbrev agrees : Kind → Bool
-agrees k = allBelow 3 (λ a. Bool·beq (hasBit (maskOf (row k .allows)) a) (allowed k a)) && (ltb (maskOf (row k .allows)) 8 && not (anyOf (λ a. ltb 2 a) (row k .allows)))
+agrees k = allBelow 3 (agreesAt k) && (ltb (maskOf (row k .allows)) 8 && not (anyOf (λ a. ltb 2 a) (row k .allows)))
 
 all-agree : allBelow 8 (λ t. agrees (kindOf t)) ≡ true
 unfolding kindOf hasBit
@@ -74,15 +78,15 @@ all-agree = refl
 
 mask-at : (k : Kind) (a : ℕ) → hasBit (maskOf (row k .allows)) a ≡ allowed k a
 mask-at k a =
-    let (p, q) = both (allBelow 3 (λ a. Bool·beq (hasBit (maskOf (row k .allows)) a) (allowed k a))) _ (every-kind agrees all-agree k) in
+    let (p, q) = both (allBelow 3 (agreesAt k)) (ltb (maskOf (row k .allows)) 8 && not (anyOf (λ a. ltb 2 a) (row k .allows))) (every-kind agrees all-agree k) in
     let (l, n) = both (ltb (maskOf (row k .allows)) 8) (not (anyOf (λ a. ltb 2 a) (row k .allows))) q in
-    go a p (ltb-true (maskOf (row k .allows)) 8 l) (not-true (anyOf (λ a. ltb 2 a) (row k .allows)) n)
+    go a (below-all 3 (agreesAt k) p a) (ltb-true (maskOf (row k .allows)) 8 l) (not-true (anyOf (λ a. ltb 2 a) (row k .allows)) n)
   where
-    go : (a : ℕ) → allBelow 3 (λ a. Bool·beq (hasBit (maskOf (row k .allows)) a) (allowed k a)) ≡ true → maskOf (row k .allows) < 8
-        → anyOf (λ a. ltb 2 a) (row k .allows) ≡ false → hasBit (maskOf (row k .allows)) a ≡ allowed k a
-    go zero p l n = beq-true _ _ (below-all 3 (λ a. Bool·beq (hasBit (maskOf (row k .allows)) a) (allowed k a)) p 0 (omega arith))
-    go (suc zero) p l n = beq-true _ _ (below-all 3 (λ a. Bool·beq (hasBit (maskOf (row k .allows)) a) (allowed k a)) p 1 (omega arith))
-    go (suc (suc zero)) p l n = beq-true _ _ (below-all 3 (λ a. Bool·beq (hasBit (maskOf (row k .allows)) a) (allowed k a)) p 2 (omega arith))
+    go : (a : ℕ) → (a < 3 → agreesAt k a ≡ true) → maskOf (row k .allows) < 8 → anyOf (λ a. ltb 2 a) (row k .allows) ≡ false
+        → hasBit (maskOf (row k .allows)) a ≡ allowed k a
+    go zero p l n = beq-true _ _ (p (omega arith))
+    go (suc zero) p l n = beq-true _ _ (p (omega arith))
+    go (suc (suc zero)) p l n = beq-true _ _ (p (omega arith))
     go (suc (suc (suc b))) p l n = no-bit (maskOf (row k .allows)) b l ∙ sym (not-in (row k .allows) b n)
 
 pub masks-exact : MasksExact

@@ -1,4 +1,4 @@
--- What a step says of a container's bytes, and of the objects from its place on.
+-- What a step says of a container's bytes, and of the objects from its cursor on.
 use mathlib.Core.Path.{_≡_, refl, sym, ap, _∙_}
 use Prim.Native.Nat.{ℕ, suc, _+_, _-_, _≤_, _<_}
 use native.Mathlib.Omega.{arith}
@@ -93,9 +93,9 @@ short-by bs p false false true ha hb hc e =
     over bs (p .at) (omega (arith, leb-false (length bs) (p .at) ha, ltb-false (length bs - p .at) 4 hb)) (ltb-true (length bs - (p .at + 4)) (getD bs (p .at + 3) 0) hc)
 short-by bs p false false false ha hb hc e = absurd (let z : _≡_ {A = ℕ} 0 1 = cc in omega arith)
 
--- ---- the objects from a place on
+-- ---- the objects from a cursor on
 
--- the bytes from a place where an object stands are those of the object, and those behind it
+-- the bytes from a cursor where an object stands are those of the object, and those behind it
 pub bytes-at : (bs : List ℕ) (p : Cursor) {h : Header} {start end : ℕ} {n : Cursor} → stepAt bs p ≡ Found h start end n
     → bytesOf (objectIn bs h start end) ++ drop (n .at) bs ≡ drop (p .at) bs
 bytes-at bs p {h} {start} {end} {n} e =

@@ -1,4 +1,4 @@
--- The walk over a container's objects, as every pass takes it: the objects before a place, and what the step there says of them.
+-- The walk over a container's objects, as every pass takes it: the objects before a cursor, and what the step there says of them.
 use mathlib.Core.Path.{_≡_, refl, sym, ap, _∙_}
 use Prim.Native.Nat.{ℕ, zero, suc, _+_, _-_, _*_, _≤_, _<_}
 use native.Mathlib.Nat.{not-suc-le-zero}
@@ -15,9 +15,9 @@ use Rattle.wire.specs.declared.objects.Step.{Step}
 use Rattle.wire.specs.declared.objects.Step.the-variants.{Found, CutShort, End}
 use Rattle.wire.specs.Step.{firstCursor, stepAt, objectIn}
 use Rattle.wire.specs.Walk.{after, walkUpTo, walk, Walks}
-use Rattle.wire.proofs.StepLaws.{found, bytes-at, split-found, split-short, split-end}
+use Rattle.wire.proofs.StepLaws.{found, left, step-inside, bytes-at, split-found, split-short, split-end}
 
--- the objects before a place of a container that a walk has come to
+-- the objects before a cursor of a container that a walk has come to
 pub record Walked (bs : List ℕ) (p : Cursor) (earlier : List Object) : Type 0 where
   pub here : drop 2 bs ≡ join earlier ++ drop (p .at) bs
 
@@ -42,7 +42,7 @@ walk-end bs p es w e = so-far bs p es w ∙ rw (split-end bs p e) (ap some (appe
 pub walk-short : (bs : List ℕ) (p : Cursor) (es : List Object) → Walked bs p es → stepAt bs p ≡ CutShort → dataObjects bs ≡ none
 walk-short bs p es w e = so-far bs p es w ∙ rw (split-short bs p e)
 
--- where a container's objects are whole, those before a place, the one there and others behind it are all of them
+-- where a container's objects are whole, those before a cursor, the one there and others behind it are all of them
 pub walk-rest : (bs : List ℕ) (p : Cursor) (es os : List Object) {h : Header} {start end : ℕ} {n : Cursor} → Walked bs p es → dataObjects bs ≡ some os
     → stepAt bs p ≡ Found h start end n → (rest : List Object) × (os ≡ es ++ (objectIn bs h start end ∷ rest))
 walk-rest bs p es os {h} {start} {end} {n} w q e = go (split (drop (n .at) bs)) (sym q ∙ so-far bs p es w ∙ ap (behind es) (split-found bs p e))
@@ -51,7 +51,7 @@ walk-rest bs p es os {h} {start} {end} {n} w q e = go (split (drop (n .at) bs)) 
     go none x = absurd (Option·none-ne-some os (sym x))
     go (some rest) x = (rest, cc)
 
--- the bytes of the objects before a place where an object stands, with that object's, are in the container's data
+-- the bytes of the objects before a cursor where an object stands, with that object's, are in the container's data
 pub walk-room : (bs : List ℕ) (p : Cursor) (es : List Object) {h : Header} {start end : ℕ} {n : Cursor} → Walked bs p es → stepAt bs p ≡ Found h start end n
     → length (join es) + 6 + (end - start) ≤ length bs
 walk-room bs p es {h} {start} {end} {n} w e =
@@ -66,14 +66,14 @@ walk-count bs p es w e = omega (arith, walk-room bs p es w e, join-four es)
 
 -- ---- the walk, and the model's objects
 
-walk-split : (k : ℕ) (bs : List ℕ) (p : Cursor) → length bs - p .at < k → walkUpTo k bs p ≡ split (drop (p .at) bs)
+walk-split : (k : ℕ) (bs : List ℕ) (p : Cursor) → left bs p < k → walkUpTo k bs p ≡ split (drop (p .at) bs)
 unfolding walkUpTo
 walk-split zero bs p h = absurd (not-suc-le-zero h)
 walk-split (suc k) bs p h = go (stepAt bs p) refl (λ n l. walk-split k bs n l)
   where
-    go : (s : Step) → stepAt bs p ≡ s → ((n : Cursor) → length bs - n .at < k → walkUpTo k bs n ≡ split (drop (n .at) bs))
+    go : (s : Step) → stepAt bs p ≡ s → ((n : Cursor) → left bs n < k → walkUpTo k bs n ≡ split (drop (n .at) bs))
         → after bs s (λ n. walkUpTo k bs n) ≡ split (drop (p .at) bs)
-    go (Found h₁ start end n) e ih = let f = found bs p e in rw (ih n (omega (arith, f .within, f .start-at, f .end-at, f .next-at))) (sym (split-found bs p e))
+    go (Found h₁ start end n) e ih = rw (ih n (omega (arith, step-inside bs p e))) (sym (split-found bs p e))
     go CutShort e ih = sym (split-short bs p e)
     go End e ih = sym (split-end bs p e)
 

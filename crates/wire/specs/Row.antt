@@ -15,7 +15,7 @@ hasBit n k = isSet (n / 2 ^ k % 2)
 -- numbers as the bits of a mask
 abbrev pub maskOf : List ℕ → ℕ
 maskOf [] = 0
-maskOf (a ∷ as₁) = 2 ^ a + maskOf as₁
+maskOf (a ∷ rest) = 2 ^ a + maskOf rest
 
 -- the row of a kind, its allowed A as a mask
 abbrev pub rowIn : Kind → Row

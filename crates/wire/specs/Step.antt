@@ -1,4 +1,4 @@
--- What stands at a place of a container.
+-- What stands at a cursor of a container.
 use Prim.Native.Nat.{ℕ, _+_, _-_}
 use mathlib.Core.List.{List}
 use mathlib.Core.Bool.{cond}

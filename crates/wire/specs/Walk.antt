@@ -1,4 +1,4 @@
--- The walk over a container: step after step, from the place before the first object.
+-- The walk over a container: step after step, from the cursor before the first object.
 use mathlib.Core.Path.{_≡_}
 use Prim.Native.Nat.{ℕ, zero, suc}
 use mathlib.Core.List.{List, []}
@@ -11,13 +11,13 @@ use Rattle.wire.specs.declared.objects.Step.{Step}
 use Rattle.wire.specs.declared.objects.Step.the-variants.{Found, CutShort, End}
 use Rattle.wire.specs.Step.{firstCursor, stepAt, objectIn}
 
--- the objects from a place on, by the step there and the objects from the next place on; none where something is cut short
+-- the objects from a cursor on, by the step there and the objects from the next cursor on; none where something is cut short
 abbrev pub after : List ℕ → Step → (rest : Cursor → Option (List Object)) → Option (List Object)
 after bs (Found h start end n) rest = before (objectIn bs h start end) (rest n)
 after bs CutShort rest = none
 after bs End rest = some []
 
--- the objects that steps find from a place on; `limit` bounds their number
+-- the objects that steps find from a cursor on; `limit` bounds their number
 unfoldable pub walkUpTo : (limit : ℕ) → List ℕ → Cursor → Option (List Object)
 walkUpTo zero bs p = none
 walkUpTo (suc k) bs p = after bs (stepAt bs p) (λ n. walkUpTo k bs n)

@@ -7,7 +7,7 @@ ghost use Rattle.model.specs.Object.{Object};
 ghost use Rattle.model.specs.Reading.{misframed, dataObjects, readObjects, reading};
 ghost use Rattle.model.specs.Constraint.{hopCount};
 ghost use Rattle.wire.specs.Step.{objectOf};
-ghost use Rattle.wire.specs.Gathered.{Gathers, wholeReading};
+ghost use Rattle.wire.specs.Gathered.{hopsIn, Gathers, wholeReading};
 ghost use Rattle.wire.specs.Reading.{readingOf};
 use crate::bars;
 use crate::objects;
@@ -25,12 +25,12 @@ pub enum Reading {
 }
 
 // What is gathered of the objects up to the first with a bar: its number, or 0; its index, or the number of objects; the
-// uses seen; the count of the HP metric.
+// uses seen; the count of the HP metric, 256 for none. Numbers alone stay in registers.
 pub struct Gathered {
     pub number: u8,
     pub place: u16,
     pub seen: u16,
-    pub hops: Quantity,
+    pub hops: u16,
 }
 
 // Bar 13.
@@ -46,21 +46,29 @@ fn is_misframed(container: &[u8]) -> bool
 }
 
 // The count of the first HP metric, where an object comes behind others.
-fn hops_with(hops: Quantity, header: Header, body: &[u8]) -> Quantity
-    ensures { λ r. ⌜ ((es : List Object) → hops ≡ hopCount es → r ≡ hopCount (es ++ (objectOf header (now (body .entry)) ∷ []))) ⌝ }
+fn hops_with(hops: u16, header: Header, body: &[u8]) -> u16
+    ensures { λ r. ⌜ ((es : List Object) → hopsIn hops ≡ hopCount es → hopsIn r ≡ hopCount (es ++ (objectOf header (now (body .entry)) ∷ []))) ⌝ }
 {
     if (header.mctype != 3) | objects::is_constraint(header) {
         return hops;
     }
-    match hops {
-        Quantity::Known(v) => Quantity::Known(v),
-        Quantity::Unknown => {
-            if body.len() < 2 {
-                return Quantity::Known(0);
-            }
-            Quantity::Known(body[1] as u32)
-        }
+    if hops < 256 {
+        return hops;
     }
+    if body.len() < 2 {
+        return 0;
+    }
+    body[1] as u16
+}
+
+// The count of the HP metric, known or not.
+fn hop_count(hops: u16) -> Quantity
+    ensures { λ r. ⌜ r ≡ hopsIn hops ⌝ }
+{
+    if hops < 256 {
+        return Quantity::Known(hops as u32);
+    }
+    Quantity::Unknown
 }
 
 // One object more.
@@ -72,20 +80,19 @@ fn gather(g: Gathered, header: Header, body: &[u8]) -> Gathered
         return g;
     }
     let number = bars::object_bar(header, body, seen::has(g.seen, header));
-    let hops = g.hops;
     if number != 0 {
         return Gathered {
             number,
             place: g.place,
             seen: g.seen,
-            hops,
+            hops: g.hops,
         };
     }
     Gathered {
         number: 0,
         place: g.place + 1,
         seen: seen::with(g.seen, header),
-        hops: hops_with(hops, header, body),
+        hops: hops_with(g.hops, header, body),
     }
 }
 
@@ -93,7 +100,6 @@ fn gather(g: Gathered, header: Header, body: &[u8]) -> Gathered
 fn conclude(g: Gathered) -> Reading
     ensures { λ r. ⌜ ((os : List Object) → Gathers g os → r ≡ readingOf (wholeReading os)) ⌝ }
 {
-    let hops = g.hops;
     if g.number != 0 {
         return Reading::Refused {
             number: g.number,
@@ -102,11 +108,13 @@ fn conclude(g: Gathered) -> Reading
     }
     Reading::WellFormed {
         count: g.place,
-        summary: Summary { hops },
+        summary: Summary {
+            hops: hop_count(g.hops),
+        },
     }
 }
 
-// Bars 14 to 17, in one pass over the objects of a container that has few enough for their index.
+// Bars 14 to 17, in one pass over the objects. 257 bytes hold few enough of them for their index.
 fn read_objects(container: &[u8]) -> Reading
     requires { ⌜ length (now container) ≤ 257 ⌝ }
     ensures { λ r. ⌜ r ≡ readingOf (readObjects (dataObjects (now (container .entry)))) ⌝ }
@@ -116,7 +124,7 @@ fn read_objects(container: &[u8]) -> Reading
         number: 0,
         place: 0,
         seen: 0,
-        hops: Quantity::Unknown,
+        hops: 256,
     };
     loop {
         match objects::next(container, cursor) {

@@ -6,25 +6,20 @@ use borrow.Author.Needs.{needs}
 use Rattle.wire.proofs.bars.object_bar.Statement.{statement}
 use Rattle.wire.proofs.bars.object_bar.Tie as tie
 
--- src/bars.rt:54:9
 is-known-requires : tie.Need-is-known-requires
 is-known-requires c κs = search needs
 
--- src/bars.rt:55:9
 returns : tie.Need-returns
 returns c = λ es s.
     let args = c .before .before .before .args in
     bar-unknown es (objectOf (args .header) (args .body .now)) (sym (c .before .is-known .ensures) ∙ not-true _ (c .if1 .taken))
 
--- src/bars.rt:57:8
 is-misused-requires : tie.Need-is-misused-requires
 is-misused-requires c κs = search needs
 
--- src/bars.rt:58:9
 repeat-or-requires : tie.Need-repeat-or-requires
 repeat-or-requires c κs = search needs
 
--- src/bars.rt:58:9
 returns-2 : tie.Need-returns-2
 returns-2 c = λ es s.
     let tested = c .before .before in
@@ -32,11 +27,9 @@ returns-2 c = λ es s.
     let k = sym (tested .before .before .is-known .ensures) ∙ not-false _ (tested .before .if1 .left) in
     c .repeat-or .ensures ∙ bar-misused es (objectOf (args .header) (args .body .now)) _ k (sym (tested .is-misused .ensures) ∙ c .before .if2 .taken) (s k)
 
--- src/bars.rt:60:9
 is-shaped-requires : tie.Need-is-shaped-requires
 is-shaped-requires c κs = search needs
 
--- src/bars.rt:61:9
 returns-3 : tie.Need-returns-3
 returns-3 c = λ es s.
     let tested = c .before .before .before in
@@ -44,11 +37,9 @@ returns-3 c = λ es s.
     let k = sym (tested .before .before .is-known .ensures) ∙ not-false _ (tested .before .if1 .left) in
     bar-malformed es (objectOf (args .header) (args .body .now)) k (sym (tested .is-misused .ensures) ∙ c .before .before .if2 .left) (sym (c .before .is-shaped .ensures) ∙ not-true _ (c .if3 .taken))
 
--- src/bars.rt:63:5
 repeat-or-requires-2 : tie.Need-repeat-or-requires-2
 repeat-or-requires-2 c κs = search needs
 
--- src/bars.rt:50:1
 returns-4 : tie.Need-returns-4
 returns-4 c = λ es s.
     let tested = c .before .before .before .before in

@@ -23,8 +23,8 @@ returns-2 c = λ es w.
     let z = clear .if1 .left in
     gathers-bar _ es (objectOf (args .header) (args .body .now)) w _ z (c .before .object-bar .ensures es (λ k. c .before .before .has .ensures es (w .seen z) k)) (c .if2 .taken)
 
-add-t7 : tie.Need-add-t7
-add-t7 c = search needs
+add-t6 : tie.Need-add-t6
+add-t6 c = search needs
 
 with-requires : tie.Need-with-requires
 with-requires c κs = search needs
@@ -50,7 +50,7 @@ gather-spec =
     has-requires
     object-bar-requires
     returns-2
-    add-t7
+    add-t6
     with-requires
     hops-with-requires
     returns-3)

@@ -6,19 +6,15 @@ use borrow.Author.Needs.{needs}
 use Rattle.wire.proofs.container.read.Statement.{statement}
 use Rattle.wire.proofs.container.read.Tie as tie
 
--- src/container.rt:149:8
 is-misframed-requires : tie.Need-is-misframed-requires
 is-misframed-requires c κs = search needs
 
--- src/container.rt:150:9
 returns : tie.Need-returns
 returns c = read-13 _ (sym (c .before .is-misframed .ensures) ∙ c .if1 .taken)
 
--- src/container.rt:155:5
 read-objects-requires : tie.Need-read-objects-requires
 read-objects-requires c κs = framed-short _ (sym (c .before .is-misframed .ensures) ∙ c .if1 .left) (omega (arith, c .before .before .shared-slice-known .given 1))
 
--- src/container.rt:146:1
 returns-2 : tie.Need-returns-2
 returns-2 c = c .read-objects .ensures ∙ read-framed _ (sym (c .before .before .is-misframed .ensures) ∙ c .before .if1 .left)
 
