@@ -14,10 +14,12 @@ use Rattle.wire.specs.declared.objects.Cursor.{Cursor}
 use Rattle.wire.specs.declared.objects.Step.the-variants.{Found, CutShort, End}
 use Rattle.wire.specs.Step.{firstCursor, stepAt, objectIn}
 use Rattle.listing.specs.Listed.{textRoom}
-use Rattle.listing.specs.Put.{Put, headerLine}
+use Rattle.wire.specs.Put.{Put}
+use Rattle.listing.specs.Line.{headerLine}
 use Rattle.wire.proofs.StepLaws.{step-inside}
 use Rattle.wire.proofs.WalkLaws.{Walked, walk-first, walk-found, walk-end, walk-short, walk-room}
-use Rattle.listing.proofs.PutLaws.{put-append, put-length, digits}
+use Rattle.wire.proofs.PutLaws.{put-append, put-length}
+use Rattle.listing.proofs.PutLaws.{digits}
 
 -- ---- how long they are
 

@@ -23,7 +23,7 @@ use Rattle.listing.specs.declared.Listed.{Listed}
 use Rattle.listing.specs.declared.Listed.the-variants.{Text, ShortOutput}
 use Rattle.wire.specs.Reading.{readingOf}
 use Rattle.listing.specs.Listed.{textRoom, listed, listedIn, TextFits, ListingOfFront}
-use Rattle.listing.specs.Put.{Put}
+use Rattle.wire.specs.Put.{Put}
 use Rattle.listing.proofs.PutLaws.{digits}
 use Rattle.listing.proofs.LineLaws.{lines-room}
 

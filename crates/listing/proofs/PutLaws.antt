@@ -1,38 +1,22 @@
 -- Text that is put into an output: one behind another, and how long a number is.
-use mathlib.Core.Path.{_≡_, refl, ap, _∙_}
-use Prim.Native.Nat.{ℕ, suc, _+_, _*_, _/_, _%_, _≤_}
-use native.Mathlib.Nat.{add-zero, add-suc, suc-add}
+use mathlib.Core.Path.{_≡_, refl}
+use Prim.Native.Nat.{ℕ, _+_, _*_, _/_, _%_, _≤_}
 use native.Mathlib.Omega.{arith}
 use mathlib.Core.Bool.{Bool, true, false, cond}
 use mathlib.Core.List.{List, [], _∷_, _++_, append-assoc}
-use lib.ListN.{length, set, length-append}
-use lib.Seq.{sets, length-sets}
+use lib.ListN.{length, length-append}
 use lib.Dec.{ltb}
 use borrow.Author.Tests.{ltb-false}
 use Rattle.model.specs.Listing.{space, digit, decimal}
-use Rattle.listing.specs.Put.{Put, numberAnd}
+use Rattle.wire.specs.Put.{Put}
+use Rattle.wire.proofs.PutLaws.{put-append}
+use Rattle.listing.specs.Line.{numberAnd}
 
 -- ---- one text behind another
-
--- two runs of stores, one behind the other, are one run
-sets-append : (l : List ℕ) (i : ℕ) (xs ys : List ℕ) → sets (sets l i xs) (i + length xs) ys ≡ sets l i (xs ++ ys)
-sets-append l i [] ys = rw (add-zero i)
-sets-append l i (x ∷ xs) ys = rw (add-suc i (length xs), ← suc-add i (length xs)) (sets-append (set l i x) (suc i) xs ys)
-
--- a text, and one behind it
-pub put-append : {l m k xs ys : List ℕ} {i j n : ℕ} → Put l i xs j m → Put m j ys n k → Put l i (xs ++ ys) n k
-put-append {l} {m} {k} {xs} {ys} {i} {j} {n} p q = record {
-  end = q .end ∙ ap (λ x. x + length ys) (p .end) ∙ rw (length-append xs ys) (omega arith);
-  written = q .written ∙ rw (p .written, p .end) (sets-append l i xs ys);
-}
 
 -- a number and a space, and the rest of a line behind them
 pub put-before : {l m k rest : List ℕ} {i j n : ℕ} (a : ℕ) → Put l i (numberAnd a space) j m → Put m j rest n k → Put l i (decimal a ++ (space ∷ rest)) n k
 put-before {rest = rest} a p q = rw (append-assoc (decimal a) (space ∷ []) rest) at (put-append p q)
-
--- an output keeps its length
-pub put-length : {l m xs : List ℕ} {i j : ℕ} → Put l i xs j m → length m ≡ length l
-put-length {l} {m} {xs} {i} p = ap length (p .written) ∙ length-sets l i xs
 
 -- ---- how long a text is
 

@@ -15,7 +15,7 @@ use Rattle.model.specs.Number.{isSet, anyOf, number, bigEndian}
 use Rattle.model.specs.Object.{Object, fieldA, join, container, Kind, unknown, lql, node, scalar, Node, nsa, ne, hp, throughput, latency, etx, kind, Role, constraint, recorded, aggregated, role}
 use Rattle.model.specs.Constraint.{linkValue}
 use Rattle.model.specs.Verdict.{containerOf}
-use Rattle.model.specs.Update.{localValue, valueOr0, combine, onTwo, clear0, combine1, widthOf, mostOf, aggregatedBody, clear1, constraintBody, subObject, clearEach, ownEnergy, countLevel, countedBody, recordedBody, addsNothing, nextBody, nextFlags, nextMode, updateObject, update}
+use Rattle.model.specs.Update.{localValue, valueOr0, combine, onTwo, onField, clear0, combine1, widthOf, mostOf, aggregatedBody, clear1, constraintBody, subObject, clearEach, ownEnergy, countLevel, countedBody, recordedBody, addsNothing, nextBody, nextFlags, nextMode, updateObject, update}
 use Rattle.model.specs.RoundTrip.{Bytes}
 use Rattle.model.specs.ReadBack.{PassesBytes}
 use Rattle.model.proofs.ListLaws.{any-append}
@@ -86,6 +86,13 @@ combine1-byte hp a v h y k = combine-within a 255 y v k h
 bigEndian-bytes : (w v : ℕ) → Bytes (bigEndian w v)
 bigEndian-bytes zero v = refl
 bigEndian-bytes (suc k) v = more-bytes (v / 256 ^ k % 256) (bigEndian k v) (omega arith) (bigEndian-bytes k v)
+
+onField-bytes : (w : ℕ) (f : ℕ → ℕ) (b : List ℕ) → Bytes b → Bytes (onField w f b)
+onField-bytes w f b h = go (eqb (length b) w)
+  where
+    go : (t : Bool) → Bytes (cond t (bigEndian w (f (number b))) b)
+    go true = bigEndian-bytes w (f (number b))
+    go false = h
 
 subObject-bytes : (w : ℕ) (q : Quantity) → Bytes (subObject w q)
 subObject-bytes w (Known v) = bigEndian-bytes w v
@@ -165,7 +172,7 @@ module _ (own : Own) (c : Neighbour) (e : own .energy ≤ 255) (t : own .nodetyp
   aggregated-bytes lql a b h = h
   aggregated-bytes (node n) a b h =
       onTwo-bytes (clear0 n) (combine1 n a (valueOr0 (localValue own c (node n)))) (clear0-byte n) (combine1-byte n a (valueOr0 (localValue own c (node n))) (local-byte n)) b h
-  aggregated-bytes (scalar s) a b h = bigEndian-bytes (widthOf s) (combine a (mostOf s) (number b) (valueOr0 (localValue own c (scalar s))))
+  aggregated-bytes (scalar s) a b h = onField-bytes (widthOf s) (λ x. combine a (mostOf s) x (valueOr0 (localValue own c (scalar s)))) b h
 
   recorded-bytes : (k : Kind) (b : List ℕ) → Bytes b → Bytes (recordedBody own c k b)
   unfolding recordedBody

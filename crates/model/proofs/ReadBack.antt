@@ -4,6 +4,7 @@ use Prim.Native.Nat.{ℕ, _+_, _^_, _≤_, _<_, min}
 use native.Mathlib.Omega.{arith}
 use mathlib.Core.List.{List, [], _∷_}
 use lib.ListN.{length, getD}
+use borrow.Author.Tests.{eq-eqb}
 use Rattle.model.specs.declared.Quantity.the-variants.{Known}
 use Rattle.model.specs.declared.Own.{Own}
 use Rattle.model.specs.declared.Neighbour.{Neighbour}
@@ -29,11 +30,11 @@ in-field throughput v h = omega arith
 in-field latency v h = omega arith
 in-field etx v h = omega arith
 
-module _ (own : Own) (c : Neighbour) (o : Object) (s : Scalar) (v : ℕ) (k : kind o ≡ scalar s) (r : role o ≡ aggregated) (l : linkValue c s ≡ Known v) where
+module _ (own : Own) (c : Neighbour) (o : Object) (s : Scalar) (v : ℕ) (k : kind o ≡ scalar s) (r : role o ≡ aggregated) (l : linkValue c s ≡ Known v) (w : length (o .body) ≡ widthOf s) where
   -- what is sent is the combined value, where that fits the field
   sent : (a : ℕ) → fieldA o ≡ a → combine a (mostOf s) (number (o .body)) v ≤ mostOf s → number (updateObject own c o .body) ≡ combine a (mostOf s) (number (o .body)) v
   unfolding updateObject localValue aggregatedBody
-  sent a e h = rw (k, r, l, e) (number-bigEndian (widthOf s) (combine a (mostOf s) (number (o .body)) v) (in-field s _ h))
+  sent a e h = rw (k, r, l, e, eq-eqb (length (o .body)) (widthOf s) w) (number-bigEndian (widthOf s) (combine a (mostOf s) (number (o .body)) v) (in-field s _ h))
 
   aggregates : Aggregates own c o s v
   aggregates = record {

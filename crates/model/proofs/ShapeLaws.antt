@@ -116,9 +116,9 @@ aggregated-shaped lql a v b e = e
 aggregated-shaped (node nsa) a v b e = onTwo-shaped (clear0 nsa) (combine1 nsa a v) b e
 aggregated-shaped (node ne) a v b e = onTwo-shaped (clear0 ne) (combine1 ne a v) b e
 aggregated-shaped (node hp) a v b e = onTwo-shaped (clear0 hp) (combine1 hp a v) b e
-aggregated-shaped (scalar throughput) a v b e = refl
-aggregated-shaped (scalar latency) a v b e = refl
-aggregated-shaped (scalar etx) a v b e = refl
+aggregated-shaped (scalar throughput) a v b e = rw e
+aggregated-shaped (scalar latency) a v b e = rw e
+aggregated-shaped (scalar etx) a v b e = rw e
 
 recorded-shaped : (own : Own) (c : Neighbour) (k : Kind) (b : List ℕ) → shaped recorded (row k) b ≡ true → shaped recorded (row k) (recordedBody own c k b) ≡ true
 unfolding recordedBody

@@ -13,7 +13,7 @@ use Rattle.model.specs.Number.{isSet, isUnknown, number}
 use Rattle.model.specs.Object.{Object, bitP, bitC, bitO, bitR, fieldA, fieldPrec, isRecorded, Scalar, scalar, node, hp, kind, aggregated, role, throughput, latency, etx, known}
 use Rattle.model.specs.Reading.{wellFormed, reading}
 use Rattle.model.specs.Constraint.{linkValue}
-use Rattle.model.specs.Update.{mostOf, updateObject}
+use Rattle.model.specs.Update.{widthOf, mostOf, updateObject}
 use Rattle.model.specs.Choice.{call}
 use Rattle.model.specs.Selection.{PreferredParent}
 use Rattle.model.specs.RoundTrip.{Bytes}
@@ -57,7 +57,8 @@ pub record Aggregates (own : Own) (c : Neighbour) (o : Object) (s : Scalar) (v :
 
 -- of every aggregated scalar metric
 abbrev pub NoSumWraps : Type 0
-NoSumWraps = (own : Own) (c : Neighbour) (o : Object) (s : Scalar) (v : ℕ) → kind o ≡ scalar s → role o ≡ aggregated → linkValue c s ≡ Known v → Aggregates own c o s v
+NoSumWraps = (own : Own) (c : Neighbour) (o : Object) (s : Scalar) (v : ℕ) → kind o ≡ scalar s → role o ≡ aggregated → linkValue c s ≡ Known v
+    → length (o .body) ≡ widthOf s → Aggregates own c o s v
 
 -- the HP metric's count rises by one, up to 255
 abbrev pub CountsHop : Type 0

@@ -55,6 +55,10 @@ combine1 nsa a v y = combine a 1 (y / 2 % 2) (v / 2 % 2) * 2 + combine a 1 (y % 
 combine1 ne a v y = combine a 255 y v
 combine1 hp a v y = combine a 255 y v
 
+-- a field of so many bytes, changed; a body of another length, which no well-formed object has, is kept
+abbrev pub onField : (width : ℕ) → (ℕ → ℕ) → List ℕ → List ℕ
+onField w f b = cond (eqb (length b) w) (bigEndian w (f (number b))) b
+
 -- the bytes of a scalar
 abbrev pub widthOf : Scalar → ℕ
 widthOf s = row (scalar s) .base
@@ -68,7 +72,7 @@ unfoldable pub aggregatedBody : Kind → (a v : ℕ) → List ℕ → List ℕ
 aggregatedBody unknown a v b = b
 aggregatedBody lql a v b = b
 aggregatedBody (node n) a v b = onTwo (clear0 n) (combine1 n a v) b
-aggregatedBody (scalar s) a v b = bigEndian (widthOf s) (combine a (mostOf s) (number b) v)
+aggregatedBody (scalar s) a v b = onField (widthOf s) (λ x. combine a (mostOf s) x v) b
 
 -- ---- constraints
 

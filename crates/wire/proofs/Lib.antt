@@ -9,3 +9,4 @@ pub mod SeenLaws
 pub mod GatherLaws
 pub mod HopLaws
 pub mod ReadLaws
+pub mod PutLaws

@@ -2,5 +2,6 @@ pub mod Step
 pub mod Walk
 pub mod Row
 pub mod Reading
+pub mod Put
 pub mod Seen
 pub mod Gathered

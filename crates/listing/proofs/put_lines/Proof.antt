@@ -1,7 +1,7 @@
 -- `put_lines` meets its contract. The loop's invariant: the lines of the objects before the place are put. The measure is what is left of the container.
 use mathlib.Core.Path.{sym, _∙_}
 use borrow.Author.Needs.{needs}
-use Rattle.listing.proofs.PutLaws.{put-length}
+use Rattle.wire.proofs.PutLaws.{put-length}
 use Rattle.listing.proofs.LineLaws.{Lines, lines-first, lines-found, lines-fit, lines-end, lines-cut}
 use Rattle.wire.proofs.StepLaws.{left, step-inside}
 use Rattle.listing.proofs.put_lines.Statement.{statement}

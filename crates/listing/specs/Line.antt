@@ -1,16 +1,8 @@
--- Inside the crate: text that is put into an output.
-use mathlib.Core.Path.{_≡_}
-use Prim.Native.Nat.{ℕ, _+_, _/_, _%_}
+-- Inside the crate: a line of the listing by the bytes of a header.
+use Prim.Native.Nat.{ℕ, _/_, _%_}
 use mathlib.Core.List.{List, [], _∷_, _++_}
-use lib.ListN.{length}
-use lib.Seq.{sets}
 use Rattle.model.specs.Listing.{decimal, line}
 use Rattle.wire.specs.declared.objects.Header.{Header}
-
--- a text is put into an output at an index: the index behind it, and the output as it is left
-pub record Put (output : List ℕ) (at : ℕ) (text : List ℕ) (behind : ℕ) (left : List ℕ) : Type 0 where
-  pub end : behind ≡ at + length text
-  pub written : left ≡ sets output at text
 
 -- a number in decimal and a byte behind it
 abbrev pub numberAnd : (n end : ℕ) → List ℕ

@@ -1,0 +1,35 @@
+-- Bytes that are put into an output: one run behind another, a byte before or behind others, and a byte changed again.
+use mathlib.Core.Path.{_≡_, refl, sym, ap, _∙_}
+use Prim.Native.Nat.{ℕ, suc, _+_, _<_}
+use native.Mathlib.Nat.{add-zero, add-suc, suc-add}
+use native.Mathlib.Omega.{arith}
+use mathlib.Core.List.{List, [], _∷_, _++_}
+use lib.ListN.{length, set, length-append}
+use lib.Seq.{sets, length-sets, set-comm}
+use Rattle.wire.specs.Put.{Put}
+
+-- two runs of stores, one behind the other, are one run
+pub sets-append : (l : List ℕ) (i : ℕ) (xs ys : List ℕ) → sets (sets l i xs) (i + length xs) ys ≡ sets l i (xs ++ ys)
+sets-append l i [] ys = rw (add-zero i)
+sets-append l i (x ∷ xs) ys = rw (add-suc i (length xs), ← suc-add i (length xs)) (sets-append (set l i x) (suc i) xs ys)
+
+-- nothing is put
+pub put-nothing : (l : List ℕ) (i : ℕ) → Put l i [] i l
+put-nothing l i = record { end = sym (add-zero i); written = refl }
+
+-- a run, and one behind it
+pub put-append : {l m k xs ys : List ℕ} {i j n : ℕ} → Put l i xs j m → Put m j ys n k → Put l i (xs ++ ys) n k
+put-append {l} {m} {k} {xs} {ys} {i} {j} {n} p q = record {
+  end = q .end ∙ ap (λ x. x + length ys) (p .end) ∙ rw (length-append xs ys) (omega arith);
+  written = q .written ∙ rw (p .written, p .end) (sets-append l i xs ys);
+}
+
+-- an output keeps its length
+pub put-length : {l m xs : List ℕ} {i j : ℕ} → Put l i xs j m → length m ≡ length l
+put-length {l} {m} {xs} {i} p = ap length (p .written) ∙ length-sets l i xs
+
+-- a store before a run of stores can come behind it
+set-sets-before : (l : List ℕ) (i j : ℕ) (x : ℕ) (ys : List ℕ) → i < j → set (sets l j ys) i x ≡ sets (set l i x) j ys
+set-sets-before l i j x [] h = refl
+set-sets-before l i j x (y ∷ ys) h =
+    set-sets-before (set l j y) i (suc j) x ys (omega arith) ∙ ap (λ m. sets m (suc j) ys) (set-comm l j i y x (λ e. omega arith))
