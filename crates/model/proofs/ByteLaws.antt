@@ -70,7 +70,7 @@ clear1-byte nsa y h = omega arith
 clear1-byte ne y h = h
 clear1-byte hp y h = h
 
-combine-within : (a most x v : ℕ) → x ≤ most → v ≤ most → combine a most x v ≤ most
+pub combine-within : (a most x v : ℕ) → x ≤ most → v ≤ most → combine a most x v ≤ most
 combine-within zero most x v h k = omega arith
 combine-within (suc zero) most x v h k = omega arith
 combine-within (suc (suc a)) most x v h k = omega arith

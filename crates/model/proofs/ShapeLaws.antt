@@ -26,17 +26,17 @@ use Rattle.model.proofs.PlaceLaws.{drop-onTwo}
 
 -- ---- lengths
 
-length-onTwo : (f g : ℕ → ℕ) (b : List ℕ) → length (onTwo f g b) ≡ length b
+pub length-onTwo : (f g : ℕ → ℕ) (b : List ℕ) → length (onTwo f g b) ≡ length b
 length-onTwo f g [] = refl
 length-onTwo f g (x ∷ []) = refl
 length-onTwo f g (x ∷ y ∷ t) = refl
 
-length-clearEach : (b : List ℕ) → length (clearEach b) ≡ length b
+pub length-clearEach : (b : List ℕ) → length (clearEach b) ≡ length b
 length-clearEach [] = refl
 length-clearEach (x ∷ []) = refl
 length-clearEach (x ∷ y ∷ t) = rw (length-clearEach t)
 
-length-ownEnergy : (t : ℕ) (q : Quantity) → length (ownEnergy t q) ≡ 2
+pub length-ownEnergy : (t : ℕ) (q : Quantity) → length (ownEnergy t q) ≡ 2
 length-ownEnergy t (Known e) = refl
 length-ownEnergy t Unknown = refl
 
@@ -169,7 +169,7 @@ objectBar-update own c es o e = go (known (kind o)) refl e
         rw (p, role-update own c o, m, next-shaped own c (kind o) (role o) (fieldA o) (o .body) s, earlier-update own c o es, r)
     go false p e = rw p
 
-update-append : (own : Own) (c : Neighbour) (es os : List Object) → update own c (es ++ os) ≡ update own c es ++ update own c os
+pub update-append : (own : Own) (c : Neighbour) (es os : List Object) → update own c (es ++ os) ≡ update own c es ++ update own c os
 update-append own c [] os = refl
 update-append own c (e ∷ es) os = rw (update-append own c es os)
 

@@ -120,3 +120,39 @@ unknown-mandatory o =
     turn false true true = refl
     turn false true false = refl
     turn false false c = refl
+
+-- a type behind the table is none of its numbers, and of unknown kind
+pub record Past (t : ℕ) : Type 0 where
+  pub one : eqb t 1 ≡ false
+  pub two : eqb t 2 ≡ false
+  pub three : eqb t 3 ≡ false
+  pub four : eqb t 4 ≡ false
+  pub five : eqb t 5 ≡ false
+  pub six : eqb t 6 ≡ false
+  pub seven : eqb t 7 ≡ false
+  pub kind : kindOf t ≡ unknown
+
+past : (t : ℕ) → 8 ≤ t → Past t
+unfolding kindOf
+past t h = record {
+  one = ne-eqb t 1 (λ e. omega arith);
+  two = ne-eqb t 2 (λ e. omega arith);
+  three = ne-eqb t 3 (λ e. omega arith);
+  four = ne-eqb t 4 (λ e. omega arith);
+  five = ne-eqb t 5 (λ e. omega arith);
+  six = ne-eqb t 6 (λ e. omega arith);
+  seven = ne-eqb t 7 (λ e. omega arith);
+  kind = List·getD-eq-default kinds unknown h;
+}
+
+-- what holds of each type of the table, and of those behind it, holds of every type
+pub by-type : (P : ℕ → Type 0) → P 0 → P 1 → P 2 → P 3 → P 4 → P 5 → P 6 → P 7 → ((t : ℕ) → Past t → P t) → (t : ℕ) → P t
+by-type P p0 p1 p2 p3 p4 p5 p6 p7 f zero = p0
+by-type P p0 p1 p2 p3 p4 p5 p6 p7 f (suc zero) = p1
+by-type P p0 p1 p2 p3 p4 p5 p6 p7 f (suc (suc zero)) = p2
+by-type P p0 p1 p2 p3 p4 p5 p6 p7 f (suc (suc (suc zero))) = p3
+by-type P p0 p1 p2 p3 p4 p5 p6 p7 f (suc (suc (suc (suc zero)))) = p4
+by-type P p0 p1 p2 p3 p4 p5 p6 p7 f (suc (suc (suc (suc (suc zero))))) = p5
+by-type P p0 p1 p2 p3 p4 p5 p6 p7 f (suc (suc (suc (suc (suc (suc zero)))))) = p6
+by-type P p0 p1 p2 p3 p4 p5 p6 p7 f (suc (suc (suc (suc (suc (suc (suc zero))))))) = p7
+by-type P p0 p1 p2 p3 p4 p5 p6 p7 f (suc (suc (suc (suc (suc (suc (suc (suc n)))))))) = f _ (past _ (omega arith))

@@ -1,7 +1,8 @@
--- Bytes that are put into an output: one run behind another, a byte before or behind others, and a byte changed again.
+-- Bytes that are put into an output: one run behind another, a byte before others, and a byte before that is stored last.
 use mathlib.Core.Path.{_≡_, refl, sym, ap, _∙_}
 use Prim.Native.Nat.{ℕ, suc, _+_, _<_}
 use native.Mathlib.Nat.{add-zero, add-suc, suc-add}
+use native.Mathlib.Numerals.{add-one}
 use native.Mathlib.Omega.{arith}
 use mathlib.Core.List.{List, [], _∷_, _++_}
 use lib.ListN.{length, set, length-append}
@@ -28,8 +29,18 @@ put-append {l} {m} {k} {xs} {ys} {i} {j} {n} p q = record {
 pub put-length : {l m xs : List ℕ} {i j : ℕ} → Put l i xs j m → length m ≡ length l
 put-length {l} {m} {xs} {i} p = ap length (p .written) ∙ length-sets l i xs
 
+-- a byte, and others behind it
+pub put-cons : {l m t : List ℕ} {j n : ℕ} (i x : ℕ) → j ≡ i + 1 → Put (set l i x) j t n m → Put l i (x ∷ t) n m
+put-cons {l} {m} {t} {j} {n} i x e p = record {
+  end = p .end ∙ omega (arith, e);
+  written = p .written ∙ ap (λ k. sets (set l i x) k t) (e ∙ add-one i);
+}
+
 -- a store before a run of stores can come behind it
-set-sets-before : (l : List ℕ) (i j : ℕ) (x : ℕ) (ys : List ℕ) → i < j → set (sets l j ys) i x ≡ sets (set l i x) j ys
-set-sets-before l i j x [] h = refl
-set-sets-before l i j x (y ∷ ys) h =
-    set-sets-before (set l j y) i (suc j) x ys (omega arith) ∙ ap (λ m. sets m (suc j) ys) (set-comm l j i y x (λ e. omega arith))
+set-sets : (l : List ℕ) (i j : ℕ) (x : ℕ) (ys : List ℕ) → i < j → set (sets l j ys) i x ≡ sets (set l i x) j ys
+set-sets l i j x [] h = refl
+set-sets l i j x (y ∷ ys) h = set-sets (set l j y) i (suc j) x ys (omega arith) ∙ ap (λ m. sets m (suc j) ys) (set-comm l j i y x (λ e. omega arith))
+
+-- a byte before others that is stored last
+pub put-before : {l m t : List ℕ} {j n : ℕ} (i x : ℕ) → i < j → Put l j t n m → Put (set l i x) j t n (set m i x)
+put-before {l} {m} {t} {j} {n} i x h p = record { end = p .end; written = ap (λ k. set k i x) (p .written) ∙ set-sets l i j x t h }

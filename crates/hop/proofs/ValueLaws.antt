@@ -1,0 +1,44 @@
+-- The received value and the local one, combined; numbers in a body.
+use mathlib.Core.Path.{_≡_, refl}
+use Prim.Native.Nat.{ℕ, zero, suc, _+_, _*_, _≤_, _<_}
+use native.Mathlib.Omega.{arith}
+use mathlib.Core.List.{List, [], _∷_}
+use lib.ListN.{length, getD}
+use Rattle.model.specs.Number.{number}
+use Rattle.model.specs.Update.{combine}
+
+-- A=1 takes the larger
+pub larger-below : (a most x v : ℕ) → a ≡ 1 → x < v → v ≡ combine a most x v
+larger-below a most x v e h = rw e (omega arith)
+
+pub larger-above : (a most x v : ℕ) → a ≡ 1 → v ≤ x → x ≡ combine a most x v
+larger-above a most x v e h = rw e (omega arith)
+
+-- others take the smaller
+pub smaller-below : (a most x v : ℕ) → (a ≡ 0 → ⊥) → (a ≡ 1 → ⊥) → x < v → x ≡ combine a most x v
+smaller-below zero most x v p q h = absurd (p refl)
+smaller-below (suc zero) most x v p q h = absurd (q refl)
+smaller-below (suc (suc a)) most x v p q h = omega arith
+
+pub smaller-above : (a most x v : ℕ) → (a ≡ 0 → ⊥) → (a ≡ 1 → ⊥) → v ≤ x → v ≡ combine a most x v
+smaller-above zero most x v p q h = absurd (p refl)
+smaller-above (suc zero) most x v p q h = absurd (q refl)
+smaller-above (suc (suc a)) most x v p q h = omega arith
+
+-- ---- numbers in a body
+
+pub number-two : (b : List ℕ) → length b ≡ 2 → getD b 0 0 * 256 + getD b 1 0 ≡ number b
+unfolding number
+number-two [] e = absurd (omega arith)
+number-two (p ∷ []) e = absurd (omega arith)
+number-two (p ∷ q ∷ []) e = omega arith
+number-two (p ∷ q ∷ r ∷ b) e = absurd (omega arith)
+
+pub number-four : (b : List ℕ) → length b ≡ 4 → ((getD b 0 0 * 256 + getD b 1 0) * 256 + getD b 2 0) * 256 + getD b 3 0 ≡ number b
+unfolding number
+number-four [] e = absurd (omega arith)
+number-four (p ∷ []) e = absurd (omega arith)
+number-four (p ∷ q ∷ []) e = absurd (omega arith)
+number-four (p ∷ q ∷ r ∷ []) e = absurd (omega arith)
+number-four (p ∷ q ∷ r ∷ s ∷ []) e = omega arith
+number-four (p ∷ q ∷ r ∷ s ∷ t ∷ b) e = absurd (omega arith)

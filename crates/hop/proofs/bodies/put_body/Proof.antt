@@ -1,0 +1,64 @@
+use borrow.Author.Needs.{needs}
+use Rattle.hop.proofs.RoleLaws.{as-constraint, as-recorded, as-aggregated}
+use Rattle.hop.proofs.KindLaws.{constraint-two}
+use Rattle.hop.proofs.SizeLaws.{length-constraint, length-aggregated}
+use Rattle.hop.proofs.bodies.put_body.Statement.{statement}
+use Rattle.hop.proofs.bodies.put_body.Tie as tie
+use Rattle.hop.proofs.bodies.put_body.Reads as reads
+use Rattle.hop.proofs.bodies.put_body.Lts as lts
+use Rattle.hop.proofs.bodies.put_aggregated.Reads as put-aggregated-reads
+use Rattle.hop.proofs.bodies.put_constraint.Reads as put-constraint-reads
+use Rattle.hop.proofs.bodies.put_recorded.Reads as put-recorded-reads
+use Rattle.wire.proofs.is_constraint.Reads as is-constraint-reads
+use Rattle.wire.proofs.is_recorded.Reads as is-recorded-reads
+
+is-constraint-requires : tie.Need-is-constraint-requires
+is-constraint-requires c κs = search needs
+
+put-constraint-requires : tie.Need-put-constraint-requires
+put-constraint-requires c κs = rw (as-constraint _ _ (c .before .before .is-constraint .ensures) (c .before .if1 .taken), length-constraint _ _) at (c .before .before .before .before .before .pre .1)
+
+same-length : tie.Need-same-length
+same-length c = search needs
+
+returns : tie.Need-returns
+returns c = rw (as-constraint _ _ (c .before .before .before .before .before .is-constraint .ensures) (c .before .before .before .before .if1 .taken), ← constraint-two _ _) (c .before .before .put-constraint .ensures)
+
+is-recorded-requires : tie.Need-is-recorded-requires
+is-recorded-requires c κs = search needs
+
+put-recorded-requires : tie.Need-put-recorded-requires
+put-recorded-requires c κs = (c .before .before .before .before .before .before .before .pre .0, rw (as-recorded _ _ (c .before .before .is-recorded .ensures) (c .before .if2 .taken)) at (c .before .before .before .before .before .before .before .pre .1))
+
+same-length-2 : tie.Need-same-length-2
+same-length-2 c = search needs
+
+returns-2 : tie.Need-returns-2
+returns-2 c = rw (as-recorded _ _ (c .before .before .before .before .before .is-recorded .ensures) (c .before .before .before .before .if2 .taken)) (c .before .before .put-recorded .ensures)
+
+put-aggregated-requires : tie.Need-put-aggregated-requires
+put-aggregated-requires c κs =
+    rw (as-aggregated _ _ (c .before .before .before .before .is-constraint .ensures) (c .before .before .is-recorded .ensures) (c .before .before .before .if1 .left) (c .before .if2 .left), length-aggregated _ _ _ _) at (c .before .before .before .before .before .before .before .pre .1)
+
+same-length-3 : tie.Need-same-length-3
+same-length-3 c = search needs
+
+returns-3 : tie.Need-returns-3
+returns-3 c =
+    rw (as-aggregated _ _ (c .before .before .before .before .before .before .before .is-constraint .ensures) (c .before .before .before .before .before .is-recorded .ensures) (c .before .before .before .before .before .before .if1 .left) (c .before .before .before .before .if2 .left)) (c .before .before .put-aggregated .ensures)
+
+pub put-body-spec : {M : Type 1} → statement M
+put-body-spec =
+    tie.close
+    (tie.spec
+    is-constraint-requires
+    put-constraint-requires
+    same-length
+    returns
+    is-recorded-requires
+    put-recorded-requires
+    same-length-2
+    returns-2
+    put-aggregated-requires
+    same-length-3
+    returns-3)

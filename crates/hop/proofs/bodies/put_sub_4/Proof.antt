@@ -1,0 +1,30 @@
+use borrow.Author.Needs.{needs}
+use Rattle.wire.proofs.PutLaws.{put-nothing}
+use Rattle.hop.proofs.BodyLaws.{sub-known, sub-unknown}
+use Rattle.hop.proofs.bodies.put_sub_4.Statement.{statement}
+use Rattle.hop.proofs.bodies.put_sub_4.Tie as tie
+use Rattle.hop.proofs.bodies.put_sub_4.Reads as reads
+use Rattle.hop.proofs.bodies.put_sub_4.Lts as lts
+use Rattle.hop.proofs.bytes.put_4.Reads as put-4-reads
+
+enum-known-q : tie.Need-enum-known-q
+enum-known-q c = search needs
+
+put-4-requires : tie.Need-put-4-requires
+put-4-requires c κs = rw (c .before .before .q .given .1) at (c .before .before .before .before .before .pre)
+
+enum-told : tie.Need-enum-told
+enum-told c = search needs
+
+same-length : tie.Need-same-length
+same-length c = search needs
+
+returns : tie.Need-returns
+returns c = sub-known 4 _ (c .before .before .before .before .before .q .given .1) (c .before .before .put-4 .ensures)
+
+returns-2 : tie.Need-returns-2
+returns-2 c = sub-unknown _ _ 4 _ (c .enum-told .given .1) (put-nothing _ _)
+
+pub put-sub-4-spec : {M : Type 1} → statement M
+put-sub-4-spec =
+    tie.close (tie.spec enum-known-q put-4-requires enum-told same-length returns returns-2)

@@ -1,0 +1,40 @@
+use native.Mathlib.Omega.{arith}
+use borrow.Author.Needs.{needs}
+use Rattle.hop.proofs.ValueLaws.{number-two}
+use Rattle.hop.proofs.bytes.number_2.Statement.{statement}
+use Rattle.hop.proofs.bytes.number_2.Tie as tie
+use Rattle.hop.proofs.bytes.number_2.Reads as reads
+use Rattle.hop.proofs.bytes.number_2.Lts as lts
+
+shared-slice-read-result : tie.Need-shared-slice-read-result
+shared-slice-read-result c = search needs
+
+cast-result : tie.Need-cast-result
+cast-result c = omega (arith, c .shared-slice-known .given 0)
+
+mul-result : tie.Need-mul-result
+mul-result c = omega (arith, c .shared-slice-known .given 0)
+
+shared-slice-read-result-2 : tie.Need-shared-slice-read-result-2
+shared-slice-read-result-2 c = search needs
+
+cast-result-2 : tie.Need-cast-result-2
+cast-result-2 c = omega (arith, c .shared-slice-known2 .given 1)
+
+add-result : tie.Need-add-result
+add-result c = omega (arith, c .shared-slice-known2 .given 0, c .shared-slice-known2 .given 1)
+
+returns : tie.Need-returns
+returns c = (number-two _ (c .before .before .pre), omega (arith, c .shared-slice-known2 .given 0, c .shared-slice-known2 .given 1))
+
+pub number-2-spec : {M : Type 1} → statement M
+number-2-spec =
+    tie.close
+    (tie.spec
+    shared-slice-read-result
+    cast-result
+    mul-result
+    shared-slice-read-result-2
+    cast-result-2
+    add-result
+    returns)

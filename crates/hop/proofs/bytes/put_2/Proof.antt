@@ -1,0 +1,45 @@
+use native.Mathlib.Omega.{arith}
+use lib.ListN.{length-set}
+use borrow.Author.Needs.{needs}
+use Rattle.hop.proofs.RunLaws.{put-pair, two-bytes}
+use Rattle.hop.proofs.bytes.put_2.Statement.{statement}
+use Rattle.hop.proofs.bytes.put_2.Tie as tie
+use Rattle.hop.proofs.bytes.put_2.Reads as reads
+use Rattle.hop.proofs.bytes.put_2.Lts as lts
+
+cast-out : tie.Need-cast-out
+cast-out c = search needs
+
+slice-write-out : tie.Need-slice-write-out
+slice-write-out c = search needs
+
+cast-out-2 : tie.Need-cast-out-2
+cast-out-2 c = search needs
+
+add-out : tie.Need-add-out
+add-out c = search needs
+
+slice-write-out-2 : tie.Need-slice-write-out-2
+slice-write-out-2 c = simp length-set (omega arith)
+
+add-result : tie.Need-add-result
+add-result c = search needs
+
+same-length : tie.Need-same-length
+same-length c = search needs
+
+returns : tie.Need-returns
+returns c = rw (← two-bytes _) (put-pair _ _ _ _)
+
+pub put-2-spec : {M : Type 1} → statement M
+put-2-spec =
+    tie.close
+    (tie.spec
+    cast-out
+    slice-write-out
+    cast-out-2
+    add-out
+    slice-write-out-2
+    add-result
+    same-length
+    returns)
