@@ -6,6 +6,7 @@ use mathlib.Core.List.{List, [], _∷_, _++_, append-assoc, append-nil}
 use lib.ListN.{length}
 use Rattle.model.specs.Number.{first, firstOf, indexAfter, indexOf}
 use Rattle.model.specs.Object.{Object, standings}
+use Rattle.model.proofs.NumberLaws.{first-zero}
 
 -- ---- the first element that a test numbers
 
@@ -56,6 +57,29 @@ module _ {A : Type 0} (f : A → ℕ) where
       go : (n : ℕ) → indexOf f xs ≤ length xs → indexAfter n (indexOf f xs) ≤ suc (length xs)
       go zero l = omega arith
       go (suc n) l = omega arith
+
+  -- an element that is numbered, behind others that are not
+  pub first-behind : (xs : List A) (x : A) (rest : List A) → firstOf f xs ≡ 0 → (f x ≡ 0 → ⊥) → firstOf f (xs ++ (x ∷ rest)) ≡ f x
+  unfolding firstOf
+  first-behind [] x rest z h = go (f x) h
+    where
+      go : (n : ℕ) → (n ≡ 0 → ⊥) → first n (firstOf f rest) ≡ n
+      go zero h = absurd (h refl)
+      go (suc n) h = refl
+  first-behind (y ∷ xs) x rest z h =
+      let (a, b) = first-zero (f y) (firstOf f xs) z in
+      rw (a, first-behind xs x rest b h)
+
+  pub index-behind : (xs : List A) (x : A) (rest : List A) → firstOf f xs ≡ 0 → (f x ≡ 0 → ⊥) → indexOf f (xs ++ (x ∷ rest)) ≡ length xs
+  unfolding firstOf indexOf
+  index-behind [] x rest z h = go (f x) h
+    where
+      go : (n : ℕ) → (n ≡ 0 → ⊥) → indexAfter n (indexOf f rest) ≡ 0
+      go zero h = absurd (h refl)
+      go (suc n) h = refl
+  index-behind (y ∷ xs) x rest z h =
+      let (a, b) = first-zero (f y) (firstOf f xs) z in
+      rw (a, index-behind xs x rest b h)
 
 -- ---- the objects of a container, each with those before it
 

@@ -32,3 +32,6 @@ pub mod Computed
 pub mod Examples
 pub mod Boundaries
 pub mod ByteLaws
+pub mod TabledLaws
+pub mod ConstraintLaws
+pub mod RankLaws

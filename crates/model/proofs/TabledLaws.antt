@@ -1,0 +1,71 @@
+-- Bodies as tabled: the objects of a well-formed container have them; how many bytes they have, and which number.
+use mathlib.Core.Path.{_≡_, refl}
+use Prim.Native.Nat.{ℕ, _+_, _*_, _≤_}
+use native.Mathlib.Omega.{arith}
+use mathlib.Core.Bool.{Bool, true, false, cond, not, _&&_, false≢true}
+use mathlib.Core.List.{List, [], _∷_, _++_}
+use lib.ListN.{length, drop, getD}
+use lib.Dec.{leb, eqb}
+use borrow.Author.Tests.{leb-true, eqb-true}
+use Rattle.model.specs.Number.{anyOf, number, firstOf}
+use Rattle.model.specs.Object.{Object, Standing, standings, kindOf, kind, known, role}
+use Rattle.model.specs.Table.{Row, row}
+use Rattle.model.specs.Reading.{tlvsFit, fixedShape, shaped, cannotBe, sameUse, objectBar}
+use Rattle.model.proofs.BoolLaws.{both}
+use Rattle.model.proofs.NumberLaws.{first-zero}
+
+-- a known type, misused or not, shaped or not, seen before or not
+by-tests : (k u f r : Bool) → _≡_ {A = ℕ} (cond (k && not (k && u) && not f) 15 (cond (k && r) 16 (cond (k && u) 17 0))) 0 → k ≡ true → f ≡ true
+by-tests false u f r e h = absurd (false≢true h)
+by-tests true false true r e h = refl
+by-tests true false false r e h = absurd (omega arith)
+by-tests true true f true e h = absurd (omega arith)
+by-tests true true f false e h = absurd (omega arith)
+
+-- an object of known type without a bar has a body as tabled
+bar-tabled : (s : Standing) → objectBar s ≡ 0 → known (kind (s .object)) ≡ true → shaped (role (s .object)) (row (kind (s .object))) (s .object .body) ≡ true
+unfolding objectBar
+bar-tabled s e k = by-tests (known (kind (s .object))) (cannotBe (role (s .object)) (row (kind (s .object)))) (shaped (role (s .object)) (row (kind (s .object))) (s .object .body)) (anyOf (sameUse (s .object)) (s .earlier)) e k
+
+-- so has any object among others without one
+pub among-tabled : (ps es : List Object) (o : Object) (rest : List Object) → firstOf objectBar (standings ps (es ++ (o ∷ rest))) ≡ 0
+    → known (kind o) ≡ true → shaped (role o) (row (kind o)) (o .body) ≡ true
+unfolding firstOf standings
+among-tabled ps [] o rest z k = bar-tabled (record { earlier = ps; object = o }) (first-zero (objectBar (record { earlier = ps; object = o })) _ z .0) k
+among-tabled ps (e ∷ es) o rest z k = among-tabled (ps ++ (e ∷ [])) es o rest (first-zero (objectBar (record { earlier = ps; object = e })) _ z .1) k
+
+-- ---- the bytes of a constraint's or an aggregated metric's body
+
+-- a body that is as tabled has the base bytes of its type, and no others where the type has no TLVs
+base-of : (r : Row) (b : List ℕ) → fixedShape r b ≡ true → r .base ≤ length b
+base-of r b e = go (r .tlvs) e
+  where
+    go : (t : Bool) → cond t (leb (r .base) (length b) && tlvsFit (drop (r .base) b)) (eqb (length b) (r .base)) ≡ true → r .base ≤ length b
+    go true e = leb-true (r .base) (length b) (both (leb (r .base) (length b)) (tlvsFit (drop (r .base) b)) e .0)
+    go false e = let q = eqb-true (length b) (r .base) e in omega arith
+
+pub fixed-base : (t n : ℕ) (b : List ℕ) → t ≡ n → fixedShape (row (kindOf t)) b ≡ true → row (kindOf n) .base ≤ length b
+fixed-base t n b e h = rw (← e) (base-of (row (kindOf t)) b h)
+
+whole-of : (r : Row) (b : List ℕ) → r .tlvs ≡ false → fixedShape r b ≡ true → length b ≡ r .base
+whole-of r b f e = eqb-true (length b) (r .base) (rw f at e)
+
+pub fixed-whole : (t n : ℕ) (b : List ℕ) → t ≡ n → row (kindOf n) .tlvs ≡ false → fixedShape (row (kindOf t)) b ≡ true → length b ≡ row (kindOf n) .base
+fixed-whole t n b e f h = whole-of (row (kindOf n)) b f (rw e at h)
+
+-- the number of 2 bytes, and of 4
+pub number-2 : (b : List ℕ) → length b ≡ 2 → getD b 0 0 * 256 + getD b 1 0 ≡ number b
+unfolding number
+number-2 [] e = absurd (omega arith)
+number-2 (x ∷ []) e = absurd (omega arith)
+number-2 (x ∷ y ∷ []) e = omega arith
+number-2 (x ∷ y ∷ z ∷ b) e = absurd (omega arith)
+
+pub number-4 : (b : List ℕ) → length b ≡ 4 → ((getD b 0 0 * 256 + getD b 1 0) * 256 + getD b 2 0) * 256 + getD b 3 0 ≡ number b
+unfolding number
+number-4 [] e = absurd (omega arith)
+number-4 (x ∷ []) e = absurd (omega arith)
+number-4 (x ∷ y ∷ []) e = absurd (omega arith)
+number-4 (x ∷ y ∷ z ∷ []) e = absurd (omega arith)
+number-4 (x ∷ y ∷ z ∷ w ∷ []) e = omega arith
+number-4 (x ∷ y ∷ z ∷ w ∷ v ∷ b) e = absurd (omega arith)

@@ -1,0 +1,11 @@
+use Rattle.model.proofs.ConstraintLaws.{by-etx}
+use Rattle.verdict.proofs.constraints.meets_etx.Statement.{statement}
+use Rattle.verdict.proofs.constraints.meets_etx.Tie as tie
+
+returns : tie.Need-returns
+returns c =
+    let args = c .before .before .args in
+    by-etx (args .neighbour) (args .limit)
+
+pub meets-etx-spec : {M : Type 1} → statement M
+meets-etx-spec = tie.close (tie.spec returns)

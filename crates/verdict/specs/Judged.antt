@@ -1,0 +1,27 @@
+-- Inside the crate: what its functions say of one another.
+use mathlib.Core.Path.{_≡_}
+use Prim.Native.Nat.{ℕ}
+use mathlib.Core.Bool.{true}
+use mathlib.Core.List.{List}
+use Rattle.model.specs.declared.Neighbour.{Neighbour}
+use Rattle.model.specs.declared.Summary.{Summary}
+use Rattle.model.specs.Number.{firstOf, indexOf}
+use Rattle.model.specs.Object.{Object, kind, known, role}
+use Rattle.model.specs.Table.{row}
+use Rattle.model.specs.Reading.{shaped, reading, wellFormed}
+use Rattle.model.specs.Constraint.{constraintBar}
+use Rattle.verdict.specs.declared.candidate.Barring.{Barring}
+
+-- an object whose body is as tabled, if its type is known
+abbrev pub Tabled : Object → Type 0
+Tabled o = known (kind o) ≡ true → shaped (role o) (row (kind o)) (o .body) ≡ true
+
+-- a container that is well-formed
+pub record WellFormed (bs : List ℕ) : Type 0 where
+  pub objects : List Object
+  pub read : reading bs ≡ wellFormed objects
+
+-- the first object with bar 18 or 19, by number and index
+pub record BarsFirst (c : Neighbour) (s : Summary) (os : List Object) (b : Barring) : Type 0 where
+  pub number : b .number ≡ firstOf (constraintBar c s) os
+  pub place : b .place ≡ indexOf (constraintBar c s) os

@@ -1,0 +1,119 @@
+// The verdict on a candidate: bars 11 and 12, its container's reading, its constraints, its rank.
+ghost use mathlib.Core.Path.{_≡_};
+ghost use mathlib.Core.List.{List};
+ghost use Rattle.model.specs.Object.{Object};
+ghost use Rattle.model.specs.Reading.{reading, wellFormed};
+ghost use Rattle.model.specs.Verdict.{outOfRange, judgeReading, verdict};
+ghost use Rattle.verdict.specs.Judged.{WellFormed, BarsFirst};
+use crate::constraints;
+use crate::rank;
+use model::Candidate;
+use model::Neighbour;
+use model::Own;
+use model::Summary;
+use model::Verdict;
+use wire::Reading;
+use wire::Step;
+
+// The first object with bar 18 or 19: the number and its index. Number 0 for none.
+pub struct Barring {
+    pub number: u8,
+    pub place: u16,
+}
+
+// Bar 11.
+fn is_out_of_range(neighbour: Neighbour) -> bool
+    ensures { λ r. ⌜ r ≡ outOfRange neighbour ⌝ }
+{
+    (neighbour.sp < 1)
+        | (9 < neighbour.sp)
+        | (neighbour.rf < 1)
+        | (4 < neighbour.rf)
+        | (5 < neighbour.sr)
+        | (7 < neighbour.lql)
+        | (3 < neighbour.nodetype)
+}
+
+// The first object of a well-formed container with bar 18 or 19.
+fn first_barring(neighbour: Neighbour, summary: Summary, container: &[u8]) -> Barring
+    requires { ⌜ WellFormed (now container) ⌝ }
+    ensures { λ r. ⌜ ((os : List Object) → reading (now (container .entry)) ≡ wellFormed os → BarsFirst neighbour summary os r) ⌝ }
+{
+    let mut cursor = wire::first();
+    let mut place: u16 = 0;
+    'objects: loop {
+        match wire::next(container, cursor) {
+            Step::Found {
+                header,
+                start,
+                end,
+                next,
+            } => {
+                let number = constraints::constraint_bar(
+                    neighbour,
+                    summary,
+                    header,
+                    &container[start..end],
+                );
+                if number != 0 {
+                    break 'objects Barring { number, place };
+                }
+                place += 1;
+                cursor = next;
+            }
+            Step::CutShort => {
+                break 'objects Barring { number: 0, place };
+            }
+            Step::End => {
+                break 'objects Barring { number: 0, place };
+            }
+        }
+    }
+}
+
+// The verdict on a candidate past bars 11 and 12, by its container.
+fn judge_container(own: Own, neighbour: Neighbour, container: &[u8]) -> Verdict
+    ensures { λ r. ⌜ r ≡ judgeReading own neighbour (reading (now (container .entry))) ⌝ }
+{
+    match wire::read(container) {
+        Reading::Refused { number, place } => Verdict::Barred { number, place },
+        Reading::WellFormed { count: _, summary } => {
+            let barring = first_barring(neighbour, summary, container);
+            if barring.number != 0 {
+                return Verdict::Barred {
+                    number: barring.number,
+                    place: barring.place,
+                };
+            }
+            rank::judge_rank(own, neighbour)
+        }
+    }
+}
+
+// The verdict on a candidate, by its container in the lent run.
+pub fn judge(own: Own, candidate: Candidate, lent: &[u8]) -> Verdict
+    ensures { λ r. ⌜ r ≡ verdict own (now (lent .entry)) candidate ⌝ }
+{
+    let neighbour = candidate.neighbour;
+    if is_out_of_range(neighbour) {
+        return Verdict::Barred {
+            number: 11,
+            place: 65535,
+        };
+    }
+    let start = candidate.start;
+    let size = candidate.size;
+    if lent.len() < start {
+        return Verdict::Barred {
+            number: 12,
+            place: 65535,
+        };
+    }
+    if lent.len() - start < size {
+        return Verdict::Barred {
+            number: 12,
+            place: 65535,
+        };
+    }
+    judge_container(own, neighbour, &lent[start..start + size])
+}

@@ -1,0 +1,56 @@
+// The resulting rank, and bars 20 and 21. Only the formula with MinHopRankIncrease leads from units to a rank.
+ghost use mathlib.Core.Path.{_≡_};
+ghost use Prim.Native.Nat.{_≤_};
+ghost use Rattle.model.specs.declared.Neighbour.{Neighbour};
+ghost use Rattle.model.specs.Rank.{unitsOf, grown, resulting, aboveLowest};
+ghost use Rattle.model.specs.Verdict.{rankBar, judgeRank};
+use model::Neighbour;
+use model::Own;
+use model::Rank;
+use model::Units;
+use model::Verdict;
+
+// Rf × Sp + Sr.
+fn units_of(neighbour: Neighbour) -> Units
+    ensures { λ r. ⌜ r ≡ unitsOf neighbour ⌝ }
+    ensures { λ r. ⌜ r .0 ≤ 65280 ⌝ }
+{
+    Units((neighbour.rf as u32) * (neighbour.sp as u32) + (neighbour.sr as u32))
+}
+
+// The formula: a rank grown by units of MinHopRankIncrease, in 32 bits, which hold it.
+fn grow(rank: Rank, units: Units, minhop: u16) -> u32
+    requires { ⌜ units .0 ≤ 65280 ⌝ }
+    ensures { λ r. ⌜ r ≡ grown rank units minhop ⌝ }
+{
+    (rank.0 as u32) + units.0 * (minhop as u32)
+}
+
+// Bar 21 of a resulting rank. L and the increase are added in 32 bits.
+fn is_above_lowest(own: Own, rank: u32) -> bool
+    ensures { λ r. ⌜ ((c : Neighbour) → rank ≡ resulting own c → r ≡ aboveLowest own c) ⌝ }
+{
+    (own.maxincrease != 0)
+        & (own.flags / 8 % 2 == 1)
+        & ((own.lowest.0 as u32) + (own.maxincrease as u32) < rank)
+}
+
+// Bars 20 and 21, or unbarred. An advertised rank of 65535 results in 65535 or more.
+pub fn judge_rank(own: Own, neighbour: Neighbour) -> Verdict
+    ensures { λ r. ⌜ r ≡ judgeRank own neighbour (rankBar own neighbour) ⌝ }
+{
+    let rank = grow(neighbour.rank, units_of(neighbour), own.minhop);
+    if 65535 <= rank {
+        return Verdict::Barred {
+            number: 20,
+            place: 65535,
+        };
+    }
+    if is_above_lowest(own, rank) {
+        return Verdict::Barred {
+            number: 21,
+            place: 65535,
+        };
+    }
+    Verdict::Unbarred(Rank(rank as u16))
+}
