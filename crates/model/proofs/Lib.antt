@@ -4,6 +4,7 @@ pub mod ListLaws
 pub mod FirstLaws
 pub mod ObjectLaws
 pub mod ChoiceLaws
+pub mod ChoosingLaws
 pub mod Refusals
 pub mod Readings
 pub mod Bars

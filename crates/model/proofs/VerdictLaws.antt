@@ -1,10 +1,12 @@
 -- What an unbarred verdict says, and that its number alone is 10.
-use mathlib.Core.Path.{_≡_, refl, sym, _∙_}
-use Prim.Native.Nat.{ℕ, _+_, _*_, _≤_, _<_}
+use mathlib.Core.Path.{_≡_, refl, sym, ap, _∙_}
+use Prim.Native.Nat.{ℕ, suc, _+_, _*_, _≤_, _<_}
 use native.Mathlib.Nat.{mul-le-mul}
 use native.Mathlib.Omega.{arith}
 use mathlib.Core.Bool.{Bool, true, false, not, false≢true, true≢false}
 use mathlib.Core.List.{List, [], _∷_}
+use lib.ListN.{length, getD, drop, length-take}
+use lib.Seq.{getD-take, getD-drop}
 use lib.Dec.{leb, ltb, eqb}
 use borrow.Author.Tests.{ltb-false, leb-false, ne-eqb}
 use Rattle.model.specs.declared.Rank.{Rank}
@@ -13,7 +15,7 @@ use Rattle.model.specs.declared.Neighbour.{Neighbour}
 use Rattle.model.specs.declared.Candidate.{Candidate}
 use Rattle.model.specs.declared.Verdict.{Verdict}
 use Rattle.model.specs.declared.Verdict.the-variants.{Unbarred, Barred}
-use Rattle.model.specs.Object.{Object}
+use Rattle.model.specs.Object.{Object, join}
 use Rattle.model.specs.Reading.{Reading, refused, wellFormed, reading}
 use Rattle.model.specs.Rank.{infinite, resulting, rankTooHigh, aboveLowest}
 use Rattle.model.specs.Verdict.{outOfRange, containerOf, outside, judgeReading, verdict, numberOf, isUnbarred}
@@ -22,6 +24,7 @@ use Rattle.model.specs.Conditions.{barsTo19, barsTo21, barredByNothing}
 use Rattle.model.proofs.BoolLaws.{neither}
 use Rattle.model.proofs.Bars.{verdict-exact, never-10}
 use Rattle.model.proofs.NumberLaws.{none-parts}
+use Rattle.model.proofs.ReadingLaws.{frame-short, reading-objects}
 
 -- what is known of a candidate that nothing bars
 pub record Admitted (own : Own) (lent : List ℕ) (c : Candidate) : Type 0 where
@@ -71,6 +74,21 @@ module _ (own : Own) (lent : List ℕ) (c : Candidate) where
       go : (v : Verdict) → verdict own lent c ≡ v → eqb (numberOf v) 10 ≡ isUnbarred v
       go (Unbarred r) e = refl
       go (Barred n p) e = ne-eqb n 10 (λ z. never-10 own lent c p (e ∙ rw z))
+
+-- ---- its container
+
+-- byte 1 of a container of two bytes or more stands in the lent run
+byte-in-run : (lent : List ℕ) (c : Candidate) → 2 ≤ length (containerOf lent c) → getD (containerOf lent c) 1 0 ≡ getD lent (c .start + 1) 0
+byte-in-run lent c h =
+    let l = length-take (c .size) (drop (c .start) lent) in
+    getD-take (c .size) (drop (c .start) lent) 1 0 (omega arith) ∙ getD-drop (c .start) lent 1 0
+
+-- a well-formed container in a run of bytes has 257 at most
+pub container-short : (lent : List ℕ) (c : Candidate) (os : List Object) → reading (containerOf lent c) ≡ wellFormed os → getD lent (c .start + 1) 0 ≤ 255 → length (containerOf lent c) ≤ 257
+container-short lent c os e b =
+    let w = reading-objects (containerOf lent c) os e .whole in
+    let l : length (containerOf lent c) ≡ suc (suc (length (join os))) = ap length w in
+    frame-short (containerOf lent c) (join os) w (rw (byte-in-run lent c (omega arith)) b) .1
 
 -- ---- the resulting rank
 

@@ -1,0 +1,5 @@
+pub mod GivenLaws
+pub mod PassLaws
+pub mod ParentLaws
+pub mod ReturnLaws
+pub mod Demand3

@@ -1,0 +1,96 @@
+-- The pass over the candidates: what is gathered of those that are judged.
+use mathlib.Core.Path.{_≡_, refl, sym, _∙_}
+use Prim.Native.Nat.{ℕ, _+_, _*_, _^_, _≤_, _<_}
+use native.Mathlib.Nat.{lt-of-lt-of-le}
+use native.Mathlib.Omega.{arith}
+use native.Mathlib.Numerals.{add-one}
+use mathlib.Core.List.{List, [], _∷_, _++_, map, map-append}
+use lib.ListN.{length, getD, set, take, replicate, length-map, length-take}
+use lib.Seq.{take-suc, length-take-le}
+use lib.Pow.{pow-mono}
+use Rattle.model.specs.declared.Own.{Own}
+use Rattle.model.specs.declared.Candidate.{Candidate}
+use Rattle.model.specs.declared.Verdict.{Verdict}
+use Rattle.model.specs.declared.Choice.{Choice}
+use Rattle.model.specs.declared.Choice.the-variants.{Nobody}
+use Rattle.model.specs.Reading.{noPlace}
+use Rattle.model.specs.Verdict.{verdict, numberOf, placeOf}
+use Rattle.model.specs.Choice.{currentOf, afterVerdict, chooseFrom, unbarredBit, bitsOf, sixteen, verdicts, choiceOf}
+use Rattle.model.proofs.ChoiceLaws.{bits-below}
+use Rattle.model.proofs.ChoosingLaws.{choose-snoc, bits-snoc, sixteen-snoc}
+
+-- what is gathered of the judged candidates: the verdicts' numbers and places, the bits, and the best
+pub record Gathered (own : Own) (lent : List ℕ) (judged : List Candidate) (numbers places : List ℕ) (bits : ℕ) (best : Choice) : Type 0 where
+  pub numbered : numbers ≡ sixteen 0 (map numberOf (verdicts own judged lent))
+  pub placed : places ≡ sixteen noPlace (map placeOf (verdicts own judged lent))
+  pub marked : bits ≡ bitsOf (verdicts own judged lent)
+  pub chosen : best ≡ choiceOf own judged lent
+
+pub gathered-none : (own : Own) (lent : List ℕ) (cs : List Candidate) → Gathered own lent (take 0 cs) (replicate 16 0) (replicate 16 noPlace) 0 Nobody
+unfolding bitsOf chooseFrom
+gathered-none own lent cs = record { numbered = refl; placed = refl; marked = refl; chosen = refl }
+
+module _ (own : Own) (lent : List ℕ) (judged : List Candidate) (c : Candidate) {numbers places : List ℕ} {bits : ℕ} {best : Choice} where
+  gathered-snoc : length judged < 16 → Gathered own lent judged numbers places bits best
+      → Gathered own lent (judged ++ (c ∷ [])) (set numbers (length judged) (numberOf (verdict own lent c))) (set places (length judged) (placeOf (verdict own lent c)))
+      (bits + unbarredBit (verdict own lent c) * 2 ^ length judged) (afterVerdict (currentOf own) best (length judged) (verdict own lent c))
+  gathered-snoc h g =
+      let vs = verdicts own judged lent in
+      let v = verdict own lent c in
+      let s : verdicts own (judged ++ (c ∷ [])) lent ≡ vs ++ (v ∷ []) = map-append (verdict own lent) judged (c ∷ []) in
+      let l : length vs ≡ length judged = length-map judged (verdict own lent) in
+      let ln : length (map numberOf vs) ≡ length judged = length-map vs numberOf ∙ l in
+      let lp : length (map placeOf vs) ≡ length judged = length-map vs placeOf ∙ l in
+      record {
+        numbered = rw (s, map-append numberOf vs (v ∷ []), g .numbered, ← ln) (sixteen-snoc 0 (map numberOf vs) (numberOf v) (omega arith));
+        placed = rw (s, map-append placeOf vs (v ∷ []), g .placed, ← lp) (sixteen-snoc noPlace (map placeOf vs) (placeOf v) (omega arith));
+        marked = rw (s, g .marked, ← l) (sym (bits-snoc vs v));
+        chosen = rw (s, g .chosen, ← l) (sym (choose-snoc (currentOf own) vs v));
+      }
+
+-- one candidate more
+gathered-more : (own : Own) (lent : List ℕ) (cs : List Candidate) (i : ℕ) (d : Candidate) {numbers places : List ℕ} {bits : ℕ} {best b : Choice} {v : Verdict} {n p w : ℕ}
+    → length cs ≡ 16 → i < 16 → Gathered own lent (take i cs) numbers places bits best → v ≡ verdict own lent (getD cs i d)
+    → n ≡ numberOf v → p ≡ placeOf v → w ≡ unbarredBit v * 2 ^ i → b ≡ afterVerdict (currentOf own) best i v
+    → Gathered own lent (take (i + 1) cs) (set numbers i n) (set places i p) (bits + w) b
+gathered-more own lent cs i d s h g ev en ep ew eb =
+    let t : take (i + 1) cs ≡ take i cs ++ (getD cs i d ∷ []) = rw (add-one) (take-suc cs i d (omega arith)) in
+    let l : length (take i cs) ≡ i = length-take-le i cs (omega arith) in
+    rw (t, en, ep, ew, eb, ev) (rw l at (gathered-snoc own lent (take i cs) (getD cs i d) (omega arith) g))
+
+-- sixteen bits hold the bits of all
+gathered-bits : {own : Own} {lent : List ℕ} {judged : List Candidate} {numbers places : List ℕ} {bits : ℕ} {best : Choice} → Gathered own lent judged numbers places bits best
+    → length judged ≤ 16 → bits < 65536
+gathered-bits {own} {lent} {judged} g h =
+    let vs = verdicts own judged lent in
+    let l : length vs ≤ 16 = rw (length-map judged (verdict own lent)) h in
+    let b : bitsOf vs < 2 ^ length vs = bits-below vs in
+    let m : 2 ^ length vs ≤ 2 ^ 16 = pow-mono l in
+    rw (g .marked) (lt-of-lt-of-le b m)
+
+-- the pass before a position: the positions stand in the array, and those before it are gathered
+pub record Pass (own : Own) (lent : List ℕ) (cs : List Candidate) (count i : ℕ) (numbers places : List ℕ) (bits : ℕ) (best : Choice) : Type 0 where
+  pub array : length cs ≡ 16
+  pub few : count ≤ 16
+  pub reached : i ≤ count
+  pub gathered : Gathered own lent (take i cs) numbers places bits best
+
+module _ {own : Own} {lent : List ℕ} {cs : List Candidate} {count i : ℕ} (d : Candidate) {numbers places : List ℕ} {bits : ℕ} {best : Choice} {v : Verdict} {w : ℕ}
+    (pass : Pass own lent cs count i numbers places bits best) (h : i < count) (judged : v ≡ verdict own lent (getD cs i d)) (marks : w ≡ unbarredBit v * 2 ^ i) where
+  pub pass-more : {n p : ℕ} {b : Choice} → n ≡ numberOf v → p ≡ placeOf v → b ≡ afterVerdict (currentOf own) best i v
+      → Pass own lent cs count (i + 1) (set numbers i n) (set places i p) (bits + w) b
+  pass-more en ep eb = record {
+    array = pass .array;
+    few = pass .few;
+    reached = omega arith;
+    gathered = gathered-more own lent cs i d (pass .array) (omega arith) (pass .gathered) judged en ep marks eb;
+  }
+
+  pub pass-fits : bits + w < 65536
+  pass-fits =
+      gathered-bits (pass-more refl refl refl .gathered) (rw (length-take (i + 1) cs) (omega arith))
+
+-- the pass is over
+pub pass-end : {own : Own} {lent : List ℕ} {cs : List Candidate} {count i : ℕ} {numbers places : List ℕ} {bits : ℕ} {best : Choice} → Pass own lent cs count i numbers places bits best
+    → count ≤ i → Gathered own lent (take count cs) numbers places bits best
+pass-end {count = count} {i = i} pass h = let e : i ≡ count = omega (arith, pass .reached) in rw e at (pass .gathered)

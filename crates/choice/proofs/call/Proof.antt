@@ -1,0 +1,195 @@
+-- `call` meets its contract. The loop's invariant: what is gathered of the candidates before the index. The measure is how many are left.
+use mathlib.Core.Path.{_≡_, sym, _∙_}
+use Prim.Native.Nat.{_+_, _-_, _≤_, _<_}
+use native.Mathlib.Omega.{arith}
+use borrow.Author.Needs.{needs}
+use lib.ListN.{length, getD, take}
+use Rattle.model.specs.declared.Choice.the-variants.{Parent}
+use Rattle.model.specs.Choice.{choiceOf}
+use Rattle.choice.specs.Given.{blank}
+use Rattle.choice.proofs.PassLaws.{Pass, gathered-none, pass-more, pass-fits, pass-end}
+use Rattle.choice.proofs.ParentLaws.{parent-at, parent-inside}
+use Rattle.choice.proofs.ReturnLaws.{runs, refused-returns, nobody-returns, parent-returns}
+use Rattle.choice.proofs.call.Statement.{statement}
+use Rattle.choice.proofs.call.Tie as tie
+
+abbrev Inv-loop : tie.InvT-loop
+Inv-loop own count lent out candidates refusal numbers₀ places₀ bits₀ best₀ i₀ numbers places bits best i =
+    Pass own lent candidates count i numbers places bits best
+
+abbrev μ-loop : tie.MeasureT-loop
+μ-loop own count lent out candidates refusal numbers₀ places₀ bits₀ best₀ i₀ numbers places bits best i = count - i
+
+-- the choice, in the arm of a parent
+parent : (c : tie.After-best Inv-loop μ-loop)
+    → let args = c .before .before .before .before .before .before .before .before .args in
+    choiceOf (args .own) (take (args .count) (args .t2)) (args .lent .now) ≡ Parent (c .best .given .0 .0) (c .best .given .0 .1 .0)
+parent c = sym (pass-end (c .before .before .before .loop .inv) (c .before .before .loop-test .left) .chosen) ∙ c .best .given .1
+
+-- the parent's position and its container
+place : (c : tie.After-best Inv-loop μ-loop)
+    → let args = c .before .before .before .before .before .before .before .before .args in
+    let p = getD (args .t2) (c .best .given .0 .0) blank in
+    (c .best .given .0 .0 < 16) × (p .start + p .size ≤ length (args .lent .now))
+place c =
+    let args = c .before .before .before .before .before .before .before .before .args in
+    let few = c .before .before .before .loop .inv .few in
+    let at = parent-at (args .own) (args .t2) (args .lent .now) (args .count) blank _ _ (parent c) in
+    (omega (arith, at .below), parent-inside (args .own) (args .t2) (args .lent .now) (args .count) blank _ _ (parent c))
+
+refusal-of-requires : tie.Need-refusal-of-requires Inv-loop μ-loop
+refusal-of-requires c κs = search needs
+
+refused-requires : tie.Need-refused-requires Inv-loop μ-loop
+refused-requires c κs = search needs
+
+returns : tie.Need-returns Inv-loop μ-loop
+returns c =
+    let args = c .before .before .before .before .before .args in
+    refused-returns (args .own) (args .t2) (args .count) (args .lent .now) (args .out .now) (c .before .before .refusal-of .ensures) (c .before .if1 .taken) (c .refused .ensures)
+
+loop-holds : tie.Need-loop-holds Inv-loop μ-loop
+loop-holds c =
+    let args = c .before .before .before .before .args in
+    record { array = search needs; few = runs (args .own) (args .t2) (args .count) (args .lent .now) (args .out .now) (c .before .refusal-of .ensures) (c .if1 .left) .few; reached = omega arith; gathered = gathered-none _ _ (args .t2) }
+
+mul-judge : tie.Need-mul-judge Inv-loop μ-loop
+mul-judge c = omega arith
+
+array-copy-out-judge : tie.Need-array-copy-out-judge Inv-loop μ-loop
+array-copy-out-judge c = omega arith
+
+judge-requires : tie.Need-judge-requires Inv-loop μ-loop
+judge-requires c κs = search needs
+
+number-of-requires : tie.Need-number-of-requires Inv-loop μ-loop
+number-of-requires c κs = search needs
+
+array-write-numbers : tie.Need-array-write-numbers Inv-loop μ-loop
+array-write-numbers c = omega arith
+
+place-of-requires : tie.Need-place-of-requires Inv-loop μ-loop
+place-of-requires c κs = search needs
+
+mul-places : tie.Need-mul-places Inv-loop μ-loop
+mul-places c = omega arith
+
+array-write-places : tie.Need-array-write-places Inv-loop μ-loop
+array-write-places c = omega arith
+
+bit-at-requires : tie.Need-bit-at-requires Inv-loop μ-loop
+bit-at-requires c κs = omega arith
+
+add-bits : tie.Need-add-bits Inv-loop μ-loop
+add-bits c =
+    let at-loop = c .before .before .before .before .before in
+    record { fits = pass-fits _ (at-loop .before .loop .inv) (at-loop .loop-test .taken) (c .before .before .before .judge .ensures) (c .bit-at .ensures) }
+
+after-verdict-requires : tie.Need-after-verdict-requires Inv-loop μ-loop
+after-verdict-requires c κs = search needs
+
+add-i : tie.Need-add-i Inv-loop μ-loop
+add-i c = omega arith
+
+loop-less : tie.Need-loop-less Inv-loop μ-loop
+loop-less c = omega arith
+
+loop-again : tie.Need-loop-again Inv-loop μ-loop
+loop-again c =
+    let at-loop = c .before .before .before .before .before .before in
+    pass-more _ (at-loop .before .loop .inv) (at-loop .loop-test .taken) (c .before .before .before .before .judge .ensures) (c .before .bit-at .ensures) (c .before .before .before .number-of .ensures) (c .before .before .place-of .ensures) (c .after-verdict .ensures)
+
+enum-told : tie.Need-enum-told Inv-loop μ-loop
+enum-told c = search needs
+
+without-parent-requires : tie.Need-without-parent-requires Inv-loop μ-loop
+without-parent-requires c κs = search needs
+
+enum-known-best : tie.Need-enum-known-best Inv-loop μ-loop
+enum-known-best c = search needs
+
+mul-c : tie.Need-mul-c Inv-loop μ-loop
+mul-c c = omega (arith, place (c .before))
+
+array-copy-out-c : tie.Need-array-copy-out-c Inv-loop μ-loop
+array-copy-out-c c = place (c .before) .0
+
+add-end : tie.Need-add-end Inv-loop μ-loop
+add-end c = omega (arith, place (c .before .before .before))
+
+sub-send : tie.Need-sub-send Inv-loop μ-loop
+sub-send c = search needs
+
+part-send-start : tie.Need-part-send-start Inv-loop μ-loop
+part-send-start c = search needs
+
+part-send-end : tie.Need-part-send-end Inv-loop μ-loop
+part-send-end c = omega (arith, place (c .before .before .before))
+
+send-requires : tie.Need-send-requires Inv-loop μ-loop
+send-requires c κs = search needs
+
+cast-answered : tie.Need-cast-answered Inv-loop μ-loop
+cast-answered c = omega (arith, place (c .before .before .before .before .before .before .before .before))
+
+answered-requires : tie.Need-answered-requires Inv-loop μ-loop
+answered-requires c κs = search needs
+
+returns-2 : tie.Need-returns-2 Inv-loop μ-loop
+returns-2 c =
+    let at-end = c .before .before .before in
+    let args = at-end .before .before .before .before .before .before .args in
+    nobody-returns (args .own) (args .t2) (args .count) (args .lent .now) (args .out .now) (at-end .before .before .before .refusal-of .ensures) (at-end .before .before .if1 .left) (at-end .before .loop .inv .array)
+    (pass-end (at-end .before .loop .inv) (at-end .loop-test .left)) (c .before .enum-told .given .1) (c .without-parent .ensures)
+
+same-length : tie.Need-same-length Inv-loop μ-loop
+same-length c = search needs
+
+returns-3 : tie.Need-returns-3 Inv-loop μ-loop
+returns-3 c =
+    let match = c .before .before .before .before .before .before .before .before .before in
+    let at-end = match .before .before in
+    let args = at-end .before .before .before .before .before .before .args in
+    let byte = at-end .before .before .before .before .before .shared-slice-known .given (getD (args .t2) (match .best .given .0 .0) blank .start + 1) in
+    parent-returns (args .own) (args .t2) (args .count) (args .lent .now) (args .out .now) (at-end .before .before .before .refusal-of .ensures) (at-end .before .before .if1 .left) (at-end .before .loop .inv .array)
+    (pass-end (at-end .before .loop .inv) (at-end .loop-test .left)) blank _ _ (omega arith) (match .best .given .1) (c .before .before .before .send .ensures) (c .answered .ensures)
+
+pub call-spec : {M : Type 1} → statement M
+call-spec =
+    tie.close
+    (tie.spec
+    Inv-loop
+    μ-loop
+    refusal-of-requires
+    refused-requires
+    returns
+    loop-holds
+    mul-judge
+    array-copy-out-judge
+    judge-requires
+    number-of-requires
+    array-write-numbers
+    place-of-requires
+    mul-places
+    array-write-places
+    bit-at-requires
+    add-bits
+    after-verdict-requires
+    add-i
+    loop-less
+    loop-again
+    enum-told
+    without-parent-requires
+    enum-known-best
+    mul-c
+    array-copy-out-c
+    add-end
+    sub-send
+    part-send-start
+    part-send-end
+    send-requires
+    cast-answered
+    answered-requires
+    returns-2
+    same-length
+    returns-3)

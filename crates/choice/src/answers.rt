@@ -1,0 +1,99 @@
+// The answer of a call, and what a verdict adds to it.
+ghost use mathlib.Core.Path.{_≡_};
+ghost use Prim.Native.Nat.{_*_, _^_, _<_};
+ghost use Rattle.model.specs.Verdict.{numberOf, placeOf};
+ghost use Rattle.model.specs.Choice.{unbarredBit, noParent};
+ghost use Rattle.choice.specs.Answered.{refusedAnswer, noRank, nothing, answerWith};
+use hop::Sent;
+use model::Answer;
+use model::Rank;
+use model::Verdict;
+
+// The number of a verdict.
+pub fn number_of(v: Verdict) -> u8
+    ensures { λ r. ⌜ r ≡ numberOf v ⌝ }
+{
+    match v {
+        Verdict::Unbarred(_) => 10,
+        Verdict::Barred { number, place: _ } => number,
+    }
+}
+
+// The place of a verdict.
+pub fn place_of(v: Verdict) -> u16
+    ensures { λ r. ⌜ r ≡ placeOf v ⌝ }
+{
+    match v {
+        Verdict::Unbarred(_) => 65535,
+        Verdict::Barred { number: _, place } => place,
+    }
+}
+
+// The bit of the candidate at a position, in its place.
+pub fn bit_at(v: Verdict, position: usize) -> u16
+    requires { ⌜ position < 16 ⌝ }
+    ensures { λ r. ⌜ r ≡ unbarredBit v * 2 ^ position ⌝ }
+{
+    match v {
+        Verdict::Unbarred(_) => 1 << position,
+        Verdict::Barred {
+            number: _,
+            place: _,
+        } => 0,
+    }
+}
+
+// The answer of a refused call.
+pub fn refused(number: u8) -> Answer
+    ensures { λ r. ⌜ r ≡ refusedAnswer number ⌝ }
+{
+    Answer {
+        refusal: number,
+        parent: 255,
+        rank: Rank(65535),
+        verdicts: [0; 16],
+        places: [65535; 16],
+        bits: 0,
+        count: 0,
+        leaf: 0,
+        size: 0,
+    }
+}
+
+// The answer of a call that is not refused.
+pub fn answered(
+    parent: u8,
+    rank: Rank,
+    verdicts: [u8; 16],
+    places: [u16; 16],
+    bits: u16,
+    sent: Sent,
+) -> Answer
+    ensures { λ r. ⌜ r ≡ answerWith parent rank verdicts places bits sent ⌝ }
+{
+    Answer {
+        refusal: 0,
+        parent,
+        rank,
+        verdicts,
+        places,
+        bits,
+        count: u16::count_ones(bits) as u8,
+        leaf: sent.leaf,
+        size: sent.size,
+    }
+}
+
+// The answer of a call that finds no parent.
+pub fn without_parent(verdicts: [u8; 16], places: [u16; 16], bits: u16) -> Answer
+    ensures { λ r. ⌜ r ≡ answerWith noParent noRank verdicts places bits nothing ⌝ }
+{
+    answered(
+        255,
+        Rank(65535),
+        verdicts,
+        places,
+        bits,
+        Sent { leaf: 0, size: 0 },
+    )
+}

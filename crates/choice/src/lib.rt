@@ -1,0 +1,52 @@
+// The call: refusals, a verdict on each candidate, the preferred parent, and the container for the next hop.
+ghost use mathlib.Core.Path.{_≡_};
+ghost use Rattle.model.specs.Choice.{call};
+ghost use Rattle.choice.specs.Given.{given};
+use model::Answer;
+use model::Candidate;
+use model::Choice;
+use model::Own;
+
+mod answers;
+mod preference;
+mod refusals;
+
+// The whole call: refusals, a verdict on each candidate, the preferred parent, and the container for the next hop in the output.
+pub fn call(
+    own: Own,
+    candidates: [Candidate; 16],
+    count: usize,
+    lent: &[u8],
+    out: &mut [u8],
+) -> Answer
+    ensures { λ r. ⌜ r ≡ call own (given candidates count) (now (lent .entry)) (now (out .entry)) .answer ⌝ }
+    ensures written { λ r. ⌜ now (out .exit) ≡ call own (given candidates count) (now (lent .entry)) (now (out .entry)) .output ⌝ }
+{
+    let refusal = refusals::refusal_of(own, count, out.len());
+    if refusal != 0 {
+        return answers::refused(refusal);
+    }
+    let mut numbers = [0u8; 16];
+    let mut places = [65535u16; 16];
+    let mut bits: u16 = 0;
+    let mut best = Choice::Nobody;
+    let mut i: usize = 0;
+    while i < count {
+        let v = verdict::judge(own, candidates[i], lent);
+        numbers[i] = answers::number_of(v);
+        places[i] = answers::place_of(v);
+        bits += answers::bit_at(v, i);
+        best = preference::after_verdict(own, best, i, v);
+        i += 1;
+    }
+    match best {
+        Choice::Nobody => answers::without_parent(numbers, places, bits),
+        Choice::Parent { position, rank } => {
+            let c = candidates[position];
+            let start = c.start;
+            let end = start + c.size;
+            let sent = hop::send(own, c.neighbour, &lent[start..end], out);
+            answers::answered(position as u8, rank, numbers, places, bits, sent)
+        }
+    }
+}
