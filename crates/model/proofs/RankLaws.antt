@@ -41,10 +41,10 @@ module _ (own : Own) (c : Neighbour) (rank : ℕ) (e : rank ≡ resulting own c)
   judged-unbarred l a = rw (too-high-by, lt-leb infinite rank l, a, e)
 
 -- bar 21 by the bit that says that L is given
-pub by-lowest : (own : Own) (rank : ℕ) (c : Neighbour) → rank ≡ resulting own c
-    → not (eqb (own .maxincrease) 0) && isSet (own .flags / 8 % 2) && ltb (own .lowest .0 + own .maxincrease) rank ≡ aboveLowest own c
+pub by-lowest : (own : Own) (highest rank : ℕ) (c : Neighbour) → highest ≡ own .lowest .0 + own .maxincrease → rank ≡ resulting own c
+    → not (eqb (own .maxincrease) 0) && isSet (own .flags / 8 % 2) && ltb highest rank ≡ aboveLowest own c
 unfolding aboveLowest
-by-lowest own rank c e = rw (← e) (go (not (eqb (own .maxincrease) 0)))
+by-lowest own highest rank c h e = rw (h, ← e) (go (not (eqb (own .maxincrease) 0)))
   where
     go : (a : Bool) → a && isSet (own .flags / 8 % 2) && ltb (own .lowest .0 + own .maxincrease) rank ≡ a && satisfies (λ l. ltb (l + own .maxincrease) rank) (lowestOf own)
     go true = satisfies-known (λ l. ltb (l + own .maxincrease) rank) (own .flags / 8 % 2) (own .lowest .0)

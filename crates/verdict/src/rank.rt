@@ -1,6 +1,6 @@
 // The resulting rank, and bars 20 and 21. Only the formula with MinHopRankIncrease leads from units to a rank.
 ghost use mathlib.Core.Path.{_≡_};
-ghost use Prim.Native.Nat.{_≤_};
+ghost use Prim.Native.Nat.{_+_, _≤_};
 ghost use Rattle.model.specs.declared.Neighbour.{Neighbour};
 ghost use Rattle.model.specs.Rank.{unitsOf, grown, resulting, aboveLowest};
 ghost use Rattle.model.specs.Verdict.{rankBar, judgeRank};
@@ -26,13 +26,18 @@ fn grow(rank: Rank, units: Units, minhop: u16) -> u32
     (rank.0 as u32) + units.0 * (minhop as u32)
 }
 
-// Bar 21 of a resulting rank. L and the increase are added in 32 bits.
+// L + DAGMaxRankIncrease, in 32 bits, which hold it.
+fn highest(own: Own) -> u32
+    ensures { λ r. ⌜ r ≡ own .lowest .0 + own .maxincrease ⌝ }
+{
+    (own.lowest.0 as u32) + (own.maxincrease as u32)
+}
+
+// Bar 21 of a resulting rank.
 fn is_above_lowest(own: Own, rank: u32) -> bool
     ensures { λ r. ⌜ ((c : Neighbour) → rank ≡ resulting own c → r ≡ aboveLowest own c) ⌝ }
 {
-    (own.maxincrease != 0)
-        & (own.flags / 8 % 2 == 1)
-        & ((own.lowest.0 as u32) + (own.maxincrease as u32) < rank)
+    (own.maxincrease != 0) & (own.flags / 8 % 2 == 1) & (highest(own) < rank)
 }
 
 // Bars 20 and 21, or unbarred. An advertised rank of 65535 results in 65535 or more.
