@@ -20,8 +20,8 @@ use Rattle.model.proofs.BoolLaws.{both}
 use Rattle.model.proofs.TypeLaws.{by-type}
 use Rattle.wire.specs.Put.{Put}
 use Rattle.wire.proofs.PutLaws.{put-cons, put-length}
-use Rattle.hop.specs.Next.{linkOf, clearFirst, combineSecond, countsIn}
-use Rattle.hop.proofs.KindLaws.{aggregated-by, recorded-by}
+use Rattle.metric.specs.Next.{linkOf, clearFirst, combineSecond, countsIn}
+use Rattle.metric.proofs.KindLaws.{aggregated-by, recorded-by}
 
 -- ---- the first two bytes changed
 

@@ -1,9 +1,4 @@
-pub mod KindLaws
 pub mod RunLaws
-pub mod ValueLaws
-pub mod RoleLaws
-pub mod LeafLaws
-pub mod SizeLaws
 pub mod BodyLaws
 pub mod PlanLaws
 pub mod SendLaws

@@ -42,27 +42,27 @@ length-object own c h b = omega arith
 
 -- ---- one object more
 
-module _ (own : Own) (c : Neighbour) (es : List Object) (h : Header) (b : List ℕ) (p : Planned) (q : Plans own c p es) (n : ℕ) (e : n ≡ length (bodyNext own c h b)) (l : n ≤ length b + 4) where
-  size-more : p .size + 4 + n ≡ length (join (update own c (es ++ (objectOf h b ∷ []))))
+module _ (own : Own) (c : Neighbour) (es : List Object) (h : Header) (b : List ℕ) (p : Planned) (q : Plans own c p es) (n : ℕ) (e : length b + n ≡ length (bodyNext own c h b)) (l : n ≤ 4) where
+  size-more : p .size + 4 + length b + n ≡ length (join (update own c (es ++ (objectOf h b ∷ []))))
   size-more =
       let k = ap length (join-next own c es (objectOf h b)) ∙ length-append (join (update own c es)) (bytesOf (updateObject own c (objectOf h b))) in
       omega (arith, q .size, length-object own c h b)
 
-  small-more : p .size + 4 + n ≤ 2 * length (join (es ++ (objectOf h b ∷ [])))
+  small-more : p .size + 4 + length b + n ≤ 2 * length (join (es ++ (objectOf h b ∷ [])))
   unfolding join
   small-more =
       let k = ap length (join-append es (objectOf h b ∷ [])) ∙ length-append (join es) (join (objectOf h b ∷ [])) in
       let m = length-append b [] in
       omega (arith, q .small)
 
-  pub plan-leaf : (p .leaf ≡ 0 → ⊥) → Plans own c (record { leaf = p .leaf; size = p .size + 4 + n }) (es ++ (objectOf h b ∷ []))
+  pub plan-leaf : (p .leaf ≡ 0 → ⊥) → Plans own c (record { leaf = p .leaf; size = p .size + 4 + length b + n }) (es ++ (objectOf h b ∷ []))
   plan-leaf f = record { leaf = go (p .leaf) f (q .leaf) ∙ sym (first-snoc (objectLeaf own c) es (objectOf h b)); size = size-more; small = small-more }
     where
       go : (x : ℕ) → (x ≡ 0 → ⊥) → x ≡ firstOf (objectLeaf own c) es → x ≡ first (firstOf (objectLeaf own c) es) (objectLeaf own c (objectOf h b))
       go zero f d = absurd (f refl)
       go (suc x) f d = rw (← d)
 
-  pub plan-next : {x : ℕ} → p .leaf ≡ 0 → x ≡ objectLeaf own c (objectOf h b) → Plans own c (record { leaf = x; size = p .size + 4 + n }) (es ++ (objectOf h b ∷ []))
+  pub plan-next : {x : ℕ} → p .leaf ≡ 0 → x ≡ objectLeaf own c (objectOf h b) → Plans own c (record { leaf = x; size = p .size + 4 + length b + n }) (es ++ (objectOf h b ∷ []))
   plan-next {x} z d =
       let none : firstOf (objectLeaf own c) es ≡ 0 = sym (q .leaf) ∙ z in
       record { leaf = d ∙ sym (first-snoc (objectLeaf own c) es (objectOf h b) ∙ rw none); size = size-more; small = small-more }

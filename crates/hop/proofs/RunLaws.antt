@@ -8,15 +8,12 @@ use mathlib.Core.List.{List, [], _∷_}
 use lib.ListN.{length, getD, set, take, drop, length-set, length-drop, drop-of-length-le}
 use mathlib.Core.Bool.{Bool, true, false, cond}
 use lib.Seq.{sets, take-all, drop-cons}
-use Rattle.model.specs.Number.{bigEndian, anyOf}
+use Rattle.model.specs.Number.{bigEndian}
 use Rattle.model.specs.Update.{clearEach, countLevel}
 use Rattle.wire.specs.Put.{Put}
 use Rattle.wire.proofs.PutLaws.{put-cons}
-use Rattle.hop.specs.Next.{countsIn}
-
--- a list from an index on
-step : (s : List ℕ) (i : ℕ) → i < length s → drop i s ≡ getD s i 0 ∷ drop (i + 1) s
-step s i h = drop-cons s i 0 h ∙ rw (add-one i)
+use Rattle.metric.specs.Next.{countsIn}
+use Rattle.metric.proofs.LevelLaws.{step}
 
 -- up to index i of what is put; `rest` gives the bytes from there on
 pub record Putting (l : List ℕ) (at : ℕ) (whole : List ℕ) (m : List ℕ) (i : ℕ) (rest : List ℕ) : Type 0 where
@@ -147,15 +144,3 @@ module _ {l m : List ℕ} {at i : ℕ} (v : ℕ) (s : List ℕ) (p : Putting l a
   level-added h =
       let d : at + i + 1 ≡ at + (i + 1) = omega arith in
       rw d (putting-end (putting-more (v * 32 + 1) (rw (drop-of-length-le s h) at p)))
-
--- ---- whether some sub-object is counted
-
-module _ (f : ℕ → Bool) (s : List ℕ) (i : ℕ) (e : anyOf f s ≡ anyOf f (drop i s)) where
-  pub any-found : i < length s → f (getD s i 0) ≡ true → true ≡ anyOf f s
-  any-found h t = sym (e ∙ rw (step s i h, t))
-
-  pub any-next : i < length s → f (getD s i 0) ≡ false → anyOf f s ≡ anyOf f (drop (i + 1) s)
-  any-next h t = e ∙ rw (step s i h, t)
-
-  pub any-none : length s ≤ i → false ≡ anyOf f s
-  any-none h = sym (e ∙ rw (drop-of-length-le s h))

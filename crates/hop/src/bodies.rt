@@ -1,43 +1,18 @@
 // Bodies for the next hop, put into an output at an index; each function answers the index behind what it puts.
-ghost use mathlib.Core.Path.{_≡_};
 ghost use Prim.Native.Nat.{_+_, _/_, _%_, _≤_, _<_};
 ghost use lib.ListN.{length};
-ghost use Rattle.model.specs.Object.{kindOf, roleOf, nsa};
+ghost use Rattle.model.specs.Object.{kindOf, roleOf};
 ghost use Rattle.model.specs.Constraint.{energyIn};
-ghost use Rattle.model.specs.Update.{localValue, valueOr0, aggregatedBody, subObject, clearEach, ownEnergy, countedBody, recordedBody, nextBody, onTwo, onField, combine1};
+ghost use Rattle.model.specs.Update.{localValue, valueOr0, aggregatedBody, subObject, clearEach, ownEnergy, countedBody, recordedBody, nextBody, onTwo, onField};
 ghost use Rattle.model.specs.Update as update;
 ghost use Rattle.wire.specs.Put.{Put};
-ghost use Rattle.hop.specs.Next.{clearFirst, clearSecond, combineSecond};
+ghost use Rattle.metric.specs.Next.{clearFirst, clearSecond, combineSecond};
 use crate::bytes;
 use crate::levels;
-use crate::values;
 use model::Neighbour;
 use model::Own;
 use model::Quantity;
 use wire::Header;
-
-// Byte 0 of a constraint's or an aggregated node metric's body, its reserved bits cleared.
-fn clear_first(mctype: u8, x: u8) -> u8
-    ensures { λ r. ⌜ r ≡ clearFirst (kindOf mctype) x ⌝ }
-{
-    if mctype == 2 {
-        return x % 16;
-    }
-    if (mctype == 1) | (mctype == 3) | (mctype == 6) {
-        return 0;
-    }
-    x
-}
-
-// Byte 1 of a constraint's body, its reserved bits cleared.
-fn clear_second(mctype: u8, y: u8) -> u8
-    ensures { λ r. ⌜ r ≡ clearSecond (kindOf mctype) y ⌝ }
-{
-    if mctype == 1 {
-        return y % 4;
-    }
-    y
-}
 
 // Puts a constraint's body.
 fn put_constraint(out: &mut [u8], at: usize, mctype: u8, body: &[u8]) -> usize
@@ -50,38 +25,14 @@ fn put_constraint(out: &mut [u8], at: usize, mctype: u8, body: &[u8]) -> usize
     bytes::put_two(
         out,
         at,
-        clear_first(mctype, body[0]),
-        clear_second(mctype, body[1]),
+        metric::clear_first(mctype, body[0]),
+        metric::clear_second(mctype, body[1]),
         body,
     )
 }
 
-// Both flags of NSA, combined with the node's own.
-fn combine_flags(a: u8, v: u32, y: u8) -> u8
-    ensures { λ r. ⌜ r ≡ combine1 nsa a v y ⌝ }
-{
-    let high = values::combine(a, 1, (y / 2 % 2) as u32, v / 2 % 2);
-    let low = values::combine(a, 1, (y % 2) as u32, v % 2);
-    (high * 2 + low) as u8
-}
-
-// Byte 1 of an aggregated node metric's body, combined with the local value.
-fn combine_second(mctype: u8, a: u8, v: u32, y: u8) -> u8
-    requires { ⌜ v ≤ 255 ⌝ }
-    ensures { λ r. ⌜ r ≡ combineSecond (kindOf mctype) a v y ⌝ }
-{
-    if mctype == 1 {
-        return combine_flags(a, v, y);
-    }
-    if (mctype == 2) | (mctype == 3) {
-        return values::combine(a, 255, y as u32, v) as u8;
-    }
-    y
-}
-
 // Puts the body of an aggregated node metric.
-fn put_node(out: &mut [u8], at: usize, mctype: u8, a: u8, v: u32, body: &[u8]) -> usize
-    requires { ⌜ v ≤ 255 ⌝ }
+fn put_node(out: &mut [u8], at: usize, mctype: u8, a: u8, v: u8, body: &[u8]) -> usize
     requires { ⌜ at + length (now body) ≤ length (now out) ⌝ }
     ensures { λ r. ⌜ Put (now (out .entry)) at (onTwo (clearFirst (kindOf mctype)) (combineSecond (kindOf mctype) a v) (now (body .entry))) r (now (out .exit)) ⌝ }
 {
@@ -91,8 +42,8 @@ fn put_node(out: &mut [u8], at: usize, mctype: u8, a: u8, v: u32, body: &[u8]) -
     bytes::put_two(
         out,
         at,
-        clear_first(mctype, body[0]),
-        combine_second(mctype, a, v, body[1]),
+        metric::clear_first(mctype, body[0]),
+        metric::combine_second(mctype, a, v, body[1]),
         body,
     )
 }
@@ -108,7 +59,7 @@ fn put_field_4(out: &mut [u8], at: usize, a: u8, v: u32, body: &[u8]) -> usize
     bytes::put_4(
         out,
         at,
-        values::combine(a, 4294967295, bytes::number_4(body), v),
+        metric::combine(a, 4294967295, wire::number_4(body), v),
     )
 }
 
@@ -120,7 +71,11 @@ fn put_field_2(out: &mut [u8], at: usize, a: u8, v: u32, body: &[u8]) -> usize
     if body.len() != 2 {
         return bytes::put_bytes(out, at, body);
     }
-    bytes::put_2(out, at, values::combine(a, 65535, bytes::number_2(body), v))
+    bytes::put_2(
+        out,
+        at,
+        metric::combine(a, 65535, wire::number_2(body) as u32, v),
+    )
 }
 
 // Puts the body of an aggregated metric, combined with the local value.
@@ -137,7 +92,7 @@ fn put_aggregated(
 {
     let t = header.mctype;
     let a = header.mode / 16 % 8;
-    let v = values::value_or_0(values::local_value(own, neighbour, t));
+    let v = metric::local_or_0(own, neighbour, t);
     if (t == 4) | (t == 5) {
         return put_field_4(out, at, a, v, body);
     }
@@ -145,7 +100,7 @@ fn put_aggregated(
         return put_field_2(out, at, a, v, body);
     }
     if (t == 1) | (t == 2) | (t == 3) {
-        return put_node(out, at, t, a, v, body);
+        return put_node(out, at, t, a, v as u8, body);
     }
     bytes::put_bytes(out, at, body)
 }
@@ -240,7 +195,7 @@ fn put_recorded(
     if mctype == 6 {
         return put_counted(out, at, neighbour.lql, body);
     }
-    let q = values::link_value(neighbour, mctype);
+    let q = metric::link_value(neighbour, mctype);
     if mctype == 4 {
         let end = put_sub_4(out, at, q);
         return bytes::put_bytes(out, end, body);

@@ -1,9 +1,8 @@
 // Bytes and numbers that are put into an output at an index; each function answers the index behind them.
-ghost use mathlib.Core.Path.{_≡_};
 ghost use Prim.Native.Nat.{_+_, _≤_, _<_};
 ghost use mathlib.Core.List.{_∷_};
 ghost use lib.ListN.{length, drop};
-ghost use Rattle.model.specs.Number.{number, bigEndian};
+ghost use Rattle.model.specs.Number.{bigEndian};
 ghost use Rattle.wire.specs.Put.{Put};
 
 // Puts a run of bytes.
@@ -50,20 +49,4 @@ pub fn put_2(out: &mut [u8], at: usize, n: u32) -> usize
     out[at] = (n / 256 % 256) as u8;
     out[at + 1] = (n % 256) as u8;
     at + 2
-}
-
-// The number in a body of four bytes.
-pub fn number_4(body: &[u8]) -> u32
-    requires { ⌜ length (now body) ≡ 4 ⌝ }
-    ensures { λ r. ⌜ r ≡ number (now (body .entry)) ⌝ }
-{
-    (((body[0] as u32) * 256 + (body[1] as u32)) * 256 + (body[2] as u32)) * 256 + (body[3] as u32)
-}
-
-// The number in a body of two bytes.
-pub fn number_2(body: &[u8]) -> u32
-    requires { ⌜ length (now body) ≡ 2 ⌝ }
-    ensures { λ r. ⌜ (r ≡ number (now (body .entry))) × (r ≤ 65535) ⌝ }
-{
-    (body[0] as u32) * 256 + (body[1] as u32)
 }

@@ -11,9 +11,7 @@ ghost use Rattle.model.specs.Reading.{dataObjects};
 ghost use Rattle.wire.specs.Step.{objectOf};
 ghost use Rattle.hop.specs.Sent.{sendsObjects, sentOf};
 ghost use Rattle.hop.specs.Planned.{Plans};
-use crate::leaves;
 use crate::sending::Sent;
-use crate::sizes;
 use model::Neighbour;
 use model::Own;
 use wire::Header;
@@ -31,12 +29,12 @@ fn plan_object(p: Planned, own: Own, neighbour: Neighbour, header: Header, body:
     requires { ⌜ p .size ≤ 1000 ⌝ }
     ensures { λ r. ⌜ ((es : List Object) → Plans own neighbour p es → Plans own neighbour r (es ++ (objectOf header (now (body .entry)) ∷ []))) ⌝ }
 {
-    let size = p.size + 4 + sizes::next_size(neighbour, header, body);
+    let size = p.size + 4 + body.len() + metric::growth(neighbour, header, body);
     if p.leaf != 0 {
         return Planned { leaf: p.leaf, size };
     }
     Planned {
-        leaf: leaves::object_leaf(own, neighbour, header, body),
+        leaf: metric::object_leaf(own, neighbour, header, body),
         size,
     }
 }

@@ -15,7 +15,6 @@ ghost use Rattle.hop.specs.Sent.{unfit, sends, sentOf};
 ghost use Rattle.hop.specs.Planned.{Fits};
 use crate::bodies;
 use crate::bytes;
-use crate::headers;
 use crate::plan;
 use model::Neighbour;
 use model::Own;
@@ -43,8 +42,8 @@ fn put_object(
     ensures { λ r. ⌜ Put (now (out .entry)) at (bytesOf (updateObject own neighbour (objectOf header (now (body .entry))))) r (now (out .exit)) ⌝ }
 {
     out[at] = header.mctype;
-    out[at + 1] = headers::next_flags(neighbour, header);
-    out[at + 2] = headers::next_mode(header);
+    out[at + 1] = metric::next_flags(neighbour, header);
+    out[at + 2] = metric::next_mode(header);
     let end = bodies::put_body(out, at + 4, own, neighbour, header, body);
     out[at + 3] = (end - at - 4) as u8;
     end

@@ -3,9 +3,8 @@ ghost use mathlib.Core.Path.{_≡_};
 ghost use Prim.Native.Nat.{_/_};
 ghost use mathlib.Core.Bool.{true, _&&_};
 ghost use mathlib.Core.List.{[]};
-ghost use lib.ListN.{length};
 ghost use lib.Dec.{leb, ltb};
-ghost use Rattle.model.specs.Number.{number, satisfies};
+ghost use Rattle.model.specs.Number.{satisfies};
 ghost use Rattle.model.specs.Object.{kindOf, throughput, latency, etx};
 ghost use Rattle.model.specs.Table.{row};
 ghost use Rattle.model.specs.Reading.{fixedShape};
@@ -84,22 +83,6 @@ fn meets_lql(neighbour: Neighbour, asked: u8) -> bool
     (1 <= neighbour.lql) & (neighbour.lql <= asked / 32)
 }
 
-// The number of a body of 4 bytes.
-fn number_4(body: &[u8]) -> u32
-    requires { ⌜ length (now body) ≡ 4 ⌝ }
-    ensures { λ r. ⌜ r ≡ number (now (body .entry)) ⌝ }
-{
-    (((body[0] as u32) * 256 + body[1] as u32) * 256 + body[2] as u32) * 256 + body[3] as u32
-}
-
-// The number of a body of 2 bytes.
-fn number_2(body: &[u8]) -> u16
-    requires { ⌜ length (now body) ≡ 2 ⌝ }
-    ensures { λ r. ⌜ r ≡ number (now (body .entry)) ⌝ }
-{
-    (body[0] as u16) * 256 + body[1] as u16
-}
-
 // Whether a constraint is met whose body is as tabled; one of unknown type is not.
 fn is_met(neighbour: Neighbour, summary: Summary, mctype: u8, body: &[u8]) -> bool
     requires { ⌜ fixedShape (row (kindOf mctype)) (now body) ≡ true ⌝ }
@@ -115,16 +98,16 @@ fn is_met(neighbour: Neighbour, summary: Summary, mctype: u8, body: &[u8]) -> bo
         return meets_hp(summary, body[1]);
     }
     if mctype == 4 {
-        return meets_throughput(neighbour, number_4(body));
+        return meets_throughput(neighbour, wire::number_4(body));
     }
     if mctype == 5 {
-        return meets_latency(neighbour, number_4(body));
+        return meets_latency(neighbour, wire::number_4(body));
     }
     if mctype == 6 {
         return meets_lql(neighbour, body[1]);
     }
     if mctype == 7 {
-        return meets_etx(neighbour, number_2(body));
+        return meets_etx(neighbour, wire::number_2(body));
     }
     false
 }

@@ -1,5 +1,6 @@
 pub mod HeaderLaws
 pub mod RowLaws
+pub mod NumberLaws
 pub mod StepLaws
 pub mod WalkLaws
 pub mod TlvLaws

@@ -1,3 +1,4 @@
+pub mod Number
 pub mod Step
 pub mod Walk
 pub mod Row

@@ -2,12 +2,15 @@
 mod bars;
 mod bodies;
 mod container;
+mod numbers;
 mod objects;
 mod seen;
 mod table;
 
 pub use container::Reading;
 pub use container::read;
+pub use numbers::number_2;
+pub use numbers::number_4;
 pub use objects::Cursor;
 pub use objects::Header;
 pub use objects::Step;

@@ -1,16 +1,9 @@
 use borrow.Author.Needs.{needs}
-use Rattle.hop.proofs.RoleLaws.{as-constraint, as-recorded, as-aggregated}
-use Rattle.hop.proofs.KindLaws.{constraint-two}
-use Rattle.hop.proofs.SizeLaws.{length-constraint, length-aggregated}
+use Rattle.metric.proofs.RoleLaws.{as-constraint, as-recorded, as-aggregated}
+use Rattle.metric.proofs.KindLaws.{constraint-two}
+use Rattle.metric.proofs.SizeLaws.{length-constraint, length-aggregated}
 use Rattle.hop.proofs.bodies.put_body.Statement.{statement}
 use Rattle.hop.proofs.bodies.put_body.Tie as tie
-use Rattle.hop.proofs.bodies.put_body.Reads as reads
-use Rattle.hop.proofs.bodies.put_body.Lts as lts
-use Rattle.hop.proofs.bodies.put_aggregated.Reads as put-aggregated-reads
-use Rattle.hop.proofs.bodies.put_constraint.Reads as put-constraint-reads
-use Rattle.hop.proofs.bodies.put_recorded.Reads as put-recorded-reads
-use Rattle.wire.proofs.is_constraint.Reads as is-constraint-reads
-use Rattle.wire.proofs.is_recorded.Reads as is-recorded-reads
 
 is-constraint-requires : tie.Need-is-constraint-requires
 is-constraint-requires c κs = search needs

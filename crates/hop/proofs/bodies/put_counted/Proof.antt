@@ -6,9 +6,6 @@ use Rattle.wire.proofs.PutLaws.{put-nothing, put-length}
 use Rattle.hop.proofs.BodyLaws.{no-levels, put-levelled, levels-room}
 use Rattle.hop.proofs.bodies.put_counted.Statement.{statement}
 use Rattle.hop.proofs.bodies.put_counted.Tie as tie
-use Rattle.hop.proofs.bodies.put_counted.Reads as reads
-use Rattle.hop.proofs.bodies.put_counted.Lts as lts
-use Rattle.hop.proofs.levels.put_levels.Reads as put-levels-reads
 
 returns : tie.Need-returns
 returns c = rw (no-levels _ _ (c .if1 .taken)) (put-nothing _ _)

@@ -1,14 +1,10 @@
+use mathlib.Core.Path.{_∙_}
 use borrow.Author.Needs.{needs}
-use Rattle.hop.proofs.BodyLaws.{on-other, on-field}
 use Rattle.model.specs.Update.{combine}
+use Rattle.wire.proofs.NumberLaws.{number-in}
+use Rattle.hop.proofs.BodyLaws.{on-other, on-field}
 use Rattle.hop.proofs.bodies.put_field_4.Statement.{statement}
 use Rattle.hop.proofs.bodies.put_field_4.Tie as tie
-use Rattle.hop.proofs.bodies.put_field_4.Reads as reads
-use Rattle.hop.proofs.bodies.put_field_4.Lts as lts
-use Rattle.hop.proofs.bytes.number_4.Reads as number-4-reads
-use Rattle.hop.proofs.bytes.put_4.Reads as put-4-reads
-use Rattle.hop.proofs.bytes.put_bytes.Reads as put-bytes-reads
-use Rattle.hop.proofs.values.combine.Reads as combine-reads
 
 put-bytes-requires : tie.Need-put-bytes-requires
 put-bytes-requires c κs = search needs
@@ -34,7 +30,7 @@ same-length-2 c = search needs
 returns-2 : tie.Need-returns-2
 returns-2 c =
     let args = c .before .before .before .before .before .before .before .before .before .args in
-    on-field 4 (λ x. combine (args .a) 4294967295 x (args .v)) _ (c .before .before .before .before .before .before .if1 .left) (c .before .before .before .before .number-4 .ensures) (c .before .before .before .combine .ensures) (c .before .before .put-4 .ensures)
+    on-field 4 (λ x. combine (args .a) 4294967295 x (args .v)) _ (c .before .before .before .before .before .before .if1 .left) (c .before .before .before .before .number-4 .ensures ∙ number-in 4 _ (c .before .before .before .before .before .before .if1 .left)) (c .before .before .before .combine .ensures) (c .before .before .put-4 .ensures)
 
 pub put-field-4-spec : {M : Type 1} → statement M
 put-field-4-spec =

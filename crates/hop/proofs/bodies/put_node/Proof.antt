@@ -1,15 +1,9 @@
 use borrow.Author.Needs.{needs}
-use Rattle.hop.proofs.BodyLaws.{on-short, on-two}
 use Rattle.model.specs.Object.{kindOf}
-use Rattle.hop.specs.Next.{clearFirst, combineSecond}
+use Rattle.metric.specs.Next.{clearFirst, combineSecond}
+use Rattle.hop.proofs.BodyLaws.{on-short, on-two}
 use Rattle.hop.proofs.bodies.put_node.Statement.{statement}
 use Rattle.hop.proofs.bodies.put_node.Tie as tie
-use Rattle.hop.proofs.bodies.put_node.Reads as reads
-use Rattle.hop.proofs.bodies.put_node.Lts as lts
-use Rattle.hop.proofs.bodies.clear_first.Reads as clear-first-reads
-use Rattle.hop.proofs.bodies.combine_second.Reads as combine-second-reads
-use Rattle.hop.proofs.bytes.put_bytes.Reads as put-bytes-reads
-use Rattle.hop.proofs.bytes.put_two.Reads as put-two-reads
 
 put-bytes-requires : tie.Need-put-bytes-requires
 put-bytes-requires c κs = search needs

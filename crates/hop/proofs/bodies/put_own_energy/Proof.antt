@@ -5,8 +5,6 @@ use borrow.Author.Needs.{needs}
 use Rattle.hop.proofs.RunLaws.{put-pair}
 use Rattle.hop.proofs.bodies.put_own_energy.Statement.{statement}
 use Rattle.hop.proofs.bodies.put_own_energy.Tie as tie
-use Rattle.hop.proofs.bodies.put_own_energy.Reads as reads
-use Rattle.hop.proofs.bodies.put_own_energy.Lts as lts
 
 mul-out : tie.Need-mul-out
 mul-out c = search needs

@@ -7,15 +7,6 @@ use Rattle.model.specs.Constraint.{energyIn}
 use Rattle.model.specs.Update.{clearEach, ownEnergy, subObject}
 use Rattle.hop.proofs.bodies.put_recorded.Statement.{statement}
 use Rattle.hop.proofs.bodies.put_recorded.Tie as tie
-use Rattle.hop.proofs.bodies.put_recorded.Reads as reads
-use Rattle.hop.proofs.bodies.put_recorded.Lts as lts
-use Rattle.hop.proofs.bodies.put_counted.Reads as put-counted-reads
-use Rattle.hop.proofs.bodies.put_energies.Reads as put-energies-reads
-use Rattle.hop.proofs.bodies.put_own_energy.Reads as put-own-energy-reads
-use Rattle.hop.proofs.bodies.put_sub_2.Reads as put-sub-2-reads
-use Rattle.hop.proofs.bodies.put_sub_4.Reads as put-sub-4-reads
-use Rattle.hop.proofs.bytes.put_bytes.Reads as put-bytes-reads
-use Rattle.hop.proofs.values.link_value.Reads as link-value-reads
 
 put-energies-requires : tie.Need-put-energies-requires
 put-energies-requires c κs =

@@ -3,9 +3,6 @@ use Rattle.wire.proofs.PutLaws.{put-nothing}
 use Rattle.hop.proofs.BodyLaws.{sub-known, sub-unknown}
 use Rattle.hop.proofs.bodies.put_sub_4.Statement.{statement}
 use Rattle.hop.proofs.bodies.put_sub_4.Tie as tie
-use Rattle.hop.proofs.bodies.put_sub_4.Reads as reads
-use Rattle.hop.proofs.bodies.put_sub_4.Lts as lts
-use Rattle.hop.proofs.bytes.put_4.Reads as put-4-reads
 
 enum-known-q : tie.Need-enum-known-q
 enum-known-q c = search needs

@@ -4,8 +4,6 @@ use borrow.Author.Needs.{needs}
 use Rattle.hop.proofs.RunLaws.{put-pair, two-bytes}
 use Rattle.hop.proofs.bytes.put_2.Statement.{statement}
 use Rattle.hop.proofs.bytes.put_2.Tie as tie
-use Rattle.hop.proofs.bytes.put_2.Reads as reads
-use Rattle.hop.proofs.bytes.put_2.Lts as lts
 
 cast-out : tie.Need-cast-out
 cast-out c = search needs

@@ -4,8 +4,6 @@ use borrow.Author.Needs.{needs}
 use Rattle.hop.proofs.RunLaws.{put-four, four-bytes}
 use Rattle.hop.proofs.bytes.put_4.Statement.{statement}
 use Rattle.hop.proofs.bytes.put_4.Tie as tie
-use Rattle.hop.proofs.bytes.put_4.Reads as reads
-use Rattle.hop.proofs.bytes.put_4.Lts as lts
 
 cast-out : tie.Need-cast-out
 cast-out c = search needs

@@ -4,8 +4,6 @@ use lib.ListN.{length, drop}
 use Rattle.hop.proofs.RunLaws.{Putting, putting-first, putting-next, putting-done}
 use Rattle.hop.proofs.bytes.put_bytes.Statement.{statement}
 use Rattle.hop.proofs.bytes.put_bytes.Tie as tie
-use Rattle.hop.proofs.bytes.put_bytes.Reads as reads
-use Rattle.hop.proofs.bytes.put_bytes.Lts as lts
 
 abbrev Inv-loop : tie.InvT-loop
 Inv-loop out₀ at bytes n i₀ out i = (i ≤ length bytes) × Putting out₀ at bytes out i (drop i bytes)

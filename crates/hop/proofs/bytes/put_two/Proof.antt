@@ -6,9 +6,6 @@ use Rattle.wire.proofs.PutLaws.{put-length}
 use Rattle.hop.proofs.RunLaws.{put-two}
 use Rattle.hop.proofs.bytes.put_two.Statement.{statement}
 use Rattle.hop.proofs.bytes.put_two.Tie as tie
-use Rattle.hop.proofs.bytes.put_two.Reads as reads
-use Rattle.hop.proofs.bytes.put_two.Lts as lts
-use Rattle.hop.proofs.bytes.put_bytes.Reads as put-bytes-reads
 
 slice-write-out : tie.Need-slice-write-out
 slice-write-out c = search needs

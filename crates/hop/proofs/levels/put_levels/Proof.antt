@@ -9,10 +9,6 @@ use Rattle.hop.proofs.RunLaws.{Putting, putting-first, level-room, leve
 use Rattle.hop.proofs.BodyLaws.{counted-byte}
 use Rattle.hop.proofs.levels.put_levels.Statement.{statement}
 use Rattle.hop.proofs.levels.put_levels.Tie as tie
-use Rattle.hop.proofs.levels.put_levels.Reads as reads
-use Rattle.hop.proofs.levels.put_levels.Lts as lts
-use Rattle.hop.proofs.bytes.put_bytes.Reads as put-bytes-reads
-use Rattle.hop.proofs.levels.counts_in.Reads as counts-in-reads
 
 abbrev Inv-loop : tie.InvT-loop
 Inv-loop out₀ at level subs i₀ out i = (i ≤ length subs) × Putting out₀ at (countLevel level subs) out i (countLevel level (drop i subs))

@@ -2,8 +2,6 @@ use borrow.Author.Needs.{needs}
 use Rattle.hop.proofs.PlanLaws.{ends-leaf, ends-long, ends-fits}
 use Rattle.hop.proofs.plan.conclude.Statement.{statement}
 use Rattle.hop.proofs.plan.conclude.Tie as tie
-use Rattle.hop.proofs.plan.conclude.Reads as reads
-use Rattle.hop.proofs.plan.conclude.Lts as lts
 
 returns : tie.Need-returns
 returns c = λ own n os q. ends-leaf own n os _ q (c .if1 .taken)

@@ -6,12 +6,6 @@ use Rattle.wire.proofs.StepLaws.{left, step-inside}
 use Rattle.hop.proofs.PlanLaws.{Planning, planning-first, planning-found, planning-room, planning-short, planning-end, planning-cut}
 use Rattle.hop.proofs.plan.plan.Statement.{statement}
 use Rattle.hop.proofs.plan.plan.Tie as tie
-use Rattle.hop.proofs.plan.plan.Reads as reads
-use Rattle.hop.proofs.plan.plan.Lts as lts
-use Rattle.hop.proofs.plan.conclude.Reads as conclude-reads
-use Rattle.hop.proofs.plan.plan_object.Reads as plan-object-reads
-use Rattle.wire.proofs.first.Reads as first-reads
-use Rattle.wire.proofs.next.Reads as next-reads
 
 abbrev Inv-loop : tie.InvT-loop
 Inv-loop own neighbour container cursor₀ p₀ cursor p = Planning own neighbour container cursor p

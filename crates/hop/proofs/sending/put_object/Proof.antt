@@ -7,11 +7,6 @@ use Rattle.hop.proofs.PlanLaws.{length-object}
 use Rattle.hop.proofs.SendLaws.{object-put}
 use Rattle.hop.proofs.sending.put_object.Statement.{statement}
 use Rattle.hop.proofs.sending.put_object.Tie as tie
-use Rattle.hop.proofs.sending.put_object.Reads as reads
-use Rattle.hop.proofs.sending.put_object.Lts as lts
-use Rattle.hop.proofs.bodies.put_body.Reads as put-body-reads
-use Rattle.hop.proofs.headers.next_flags.Reads as next-flags-reads
-use Rattle.hop.proofs.headers.next_mode.Reads as next-mode-reads
 
 slice-write-out : tie.Need-slice-write-out
 slice-write-out c = omega (arith, length-object (c .before .before .args .own) (c .before .before .args .neighbour) (c .before .before .args .header) (c .before .before .args .body .now))

@@ -6,11 +6,6 @@ use Rattle.wire.proofs.PutLaws.{put-length}
 use Rattle.hop.proofs.SendLaws.{Written, written-first, written-found, written-room, written-end, written-cut}
 use Rattle.hop.proofs.sending.put_objects.Statement.{statement}
 use Rattle.hop.proofs.sending.put_objects.Tie as tie
-use Rattle.hop.proofs.sending.put_objects.Reads as reads
-use Rattle.hop.proofs.sending.put_objects.Lts as lts
-use Rattle.hop.proofs.sending.put_object.Reads as put-object-reads
-use Rattle.wire.proofs.first.Reads as first-reads
-use Rattle.wire.proofs.next.Reads as next-reads
 
 abbrev Inv-loop : tie.InvT-loop
 Inv-loop out₀ own neighbour container cursor₀ at₀ out cursor at = Written own neighbour out₀ container cursor at out

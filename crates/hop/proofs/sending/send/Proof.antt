@@ -9,12 +9,6 @@ use lib.Seq.{length-take-le}
 use Rattle.hop.proofs.SendLaws.{sends-fits, built-length}
 use Rattle.hop.proofs.sending.send.Statement.{statement}
 use Rattle.hop.proofs.sending.send.Tie as tie
-use Rattle.hop.proofs.sending.send.Reads as reads
-use Rattle.hop.proofs.sending.send.Lts as lts
-use Rattle.hop.proofs.bytes.put_bytes.Reads as put-bytes-reads
-use Rattle.hop.proofs.plan.plan.Reads as plan-reads
-use Rattle.hop.proofs.sending.is_unfit.Reads as is-unfit-reads
-use Rattle.hop.proofs.sending.put_objects.Reads as put-objects-reads
 
 is-unfit-requires : tie.Need-is-unfit-requires
 is-unfit-requires c κs = search needs

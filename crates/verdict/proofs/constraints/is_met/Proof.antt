@@ -1,6 +1,7 @@
 use Rattle.model.specs.Object.{kindOf}
 use Rattle.model.proofs.TabledLaws.{fixed-base, fixed-whole}
 use Rattle.model.proofs.ConstraintLaws.{met-nsa, met-ne, met-hp, met-throughput, met-latency, met-lql, met-etx, met-unknown, past-known}
+use Rattle.wire.proofs.NumberLaws.{number-in}
 use mathlib.Core.Path.{refl, _∙_}
 use native.Mathlib.Omega.{arith}
 use borrow.Author.Needs.{needs}
@@ -57,34 +58,32 @@ returns-3 c =
     c .meets-hp .ensures ∙ met-hp (args .neighbour) (args .summary) (args .mctype) (args .body .now) (c .before .before .if3 .taken)
 
 number-4-requires : tie.Need-number-4-requires
-unfolding kindOf
-number-4-requires c κs =
-    let start = c .before .before .before .before .before in
-    fixed-whole (start .args .mctype) 4 (start .args .body .now) (c .if4 .taken) refl (start .pre)
+number-4-requires c κs = search needs
 
 meets-throughput-requires : tie.Need-meets-throughput-requires
 meets-throughput-requires c κs = search needs
 
 returns-4 : tie.Need-returns-4
+unfolding kindOf
 returns-4 c =
-    let args = c .before .before .before .before .before .before .before .args in
+    let start = c .before .before .before .before .before .before .before in
+    let args = start .args in
     c .meets-throughput .ensures
-    ∙ met-throughput (args .neighbour) (args .summary) (args .mctype) (args .body .now) _ (c .before .before .if4 .taken) (c .before .number-4 .ensures)
+    ∙ met-throughput (args .neighbour) (args .summary) (args .mctype) (args .body .now) _ (c .before .before .if4 .taken) (c .before .number-4 .ensures ∙ number-in 4 (args .body .now) (fixed-whole (args .mctype) 4 (args .body .now) (c .before .before .if4 .taken) refl (start .pre)))
 
 number-4-requires-2 : tie.Need-number-4-requires-2
-unfolding kindOf
-number-4-requires-2 c κs =
-    let start = c .before .before .before .before .before .before in
-    fixed-whole (start .args .mctype) 5 (start .args .body .now) (c .if5 .taken) refl (start .pre)
+number-4-requires-2 c κs = search needs
 
 meets-latency-requires : tie.Need-meets-latency-requires
 meets-latency-requires c κs = search needs
 
 returns-5 : tie.Need-returns-5
+unfolding kindOf
 returns-5 c =
-    let args = c .before .before .before .before .before .before .before .before .args in
+    let start = c .before .before .before .before .before .before .before .before in
+    let args = start .args in
     c .meets-latency .ensures
-    ∙ met-latency (args .neighbour) (args .summary) (args .mctype) (args .body .now) _ (c .before .before .if5 .taken) (c .before .number-42 .ensures)
+    ∙ met-latency (args .neighbour) (args .summary) (args .mctype) (args .body .now) _ (c .before .before .if5 .taken) (c .before .number-42 .ensures ∙ number-in 4 (args .body .now) (fixed-whole (args .mctype) 5 (args .body .now) (c .before .before .if5 .taken) refl (start .pre)))
 
 shared-slice-read-meets-lql : tie.Need-shared-slice-read-meets-lql
 unfolding kindOf
@@ -101,19 +100,18 @@ returns-6 c =
     c .meets-lql .ensures ∙ met-lql (args .neighbour) (args .summary) (args .mctype) (args .body .now) (c .before .before .if6 .taken)
 
 number-2-requires : tie.Need-number-2-requires
-unfolding kindOf
-number-2-requires c κs =
-    let start = c .before .before .before .before .before .before .before .before in
-    fixed-whole (start .args .mctype) 7 (start .args .body .now) (c .if7 .taken) refl (start .pre)
+number-2-requires c κs = search needs
 
 meets-etx-requires : tie.Need-meets-etx-requires
 meets-etx-requires c κs = search needs
 
 returns-7 : tie.Need-returns-7
+unfolding kindOf
 returns-7 c =
-    let args = c .before .before .before .before .before .before .before .before .before .before .args in
+    let start = c .before .before .before .before .before .before .before .before .before .before in
+    let args = start .args in
     c .meets-etx .ensures
-    ∙ met-etx (args .neighbour) (args .summary) (args .mctype) (args .body .now) _ (c .before .before .if7 .taken) (c .before .number-2 .ensures)
+    ∙ met-etx (args .neighbour) (args .summary) (args .mctype) (args .body .now) _ (c .before .before .if7 .taken) (c .before .number-2 .ensures ∙ number-in 2 (args .body .now) (fixed-whole (args .mctype) 7 (args .body .now) (c .before .before .if7 .taken) refl (start .pre)))
 
 returns-8 : tie.Need-returns-8
 returns-8 c =
