@@ -4,7 +4,6 @@ ghost use Rattle.model.specs.Object.{kindOf, roleOf};
 ghost use Rattle.model.specs.Update.{addsNothing, nextFlags, nextMode};
 use crate::values;
 use model::Neighbour;
-use model::Quantity;
 use wire::Header;
 
 // Whether this hop adds nothing to a recorded metric: its type is not known, or the link's value is not.
