@@ -1,8 +1,10 @@
 // One hop: leaf answers 31 to 35, and the parent's objects updated for the next hop.
+mod aggregated;
 mod bodies;
 mod bytes;
 mod levels;
 mod plan;
+mod recorded;
 mod sending;
 
 pub use sending::Sent;

@@ -2,8 +2,8 @@ use borrow.Author.Needs.{needs}
 use Rattle.model.specs.Object.{kindOf}
 use Rattle.metric.specs.Next.{clearFirst, combineSecond}
 use Rattle.hop.proofs.BodyLaws.{on-short, on-two}
-use Rattle.hop.proofs.bodies.put_node.Statement.{statement}
-use Rattle.hop.proofs.bodies.put_node.Tie as tie
+use Rattle.hop.proofs.aggregated.put_node.Statement.{statement}
+use Rattle.hop.proofs.aggregated.put_node.Tie as tie
 
 put-bytes-requires : tie.Need-put-bytes-requires
 put-bytes-requires c κs = search needs

@@ -5,8 +5,8 @@ use Rattle.wire.proofs.PutLaws.{put-append, put-length}
 use Rattle.hop.proofs.BodyLaws.{recorded-energy, recorded-levels, recorded-before, recorded-2, recorded-4, recorded-room, room-first, room-second}
 use Rattle.model.specs.Constraint.{energyIn}
 use Rattle.model.specs.Update.{clearEach, ownEnergy, subObject}
-use Rattle.hop.proofs.bodies.put_recorded.Statement.{statement}
-use Rattle.hop.proofs.bodies.put_recorded.Tie as tie
+use Rattle.hop.proofs.recorded.put_recorded.Statement.{statement}
+use Rattle.hop.proofs.recorded.put_recorded.Tie as tie
 
 put-energies-requires : tie.Need-put-energies-requires
 put-energies-requires c κs =

@@ -1,8 +1,8 @@
 use borrow.Author.Needs.{needs}
 use Rattle.wire.proofs.PutLaws.{put-nothing}
 use Rattle.hop.proofs.BodyLaws.{sub-known, sub-unknown}
-use Rattle.hop.proofs.bodies.put_sub_2.Statement.{statement}
-use Rattle.hop.proofs.bodies.put_sub_2.Tie as tie
+use Rattle.hop.proofs.recorded.put_sub_2.Statement.{statement}
+use Rattle.hop.proofs.recorded.put_sub_2.Tie as tie
 
 enum-known-q : tie.Need-enum-known-q
 enum-known-q c = search needs

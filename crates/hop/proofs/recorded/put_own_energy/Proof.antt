@@ -3,8 +3,8 @@ use borrow.Author.Tests.{eq-eqb, ne-eqb}
 use lib.ListN.{length-set}
 use borrow.Author.Needs.{needs}
 use Rattle.hop.proofs.RunLaws.{put-pair}
-use Rattle.hop.proofs.bodies.put_own_energy.Statement.{statement}
-use Rattle.hop.proofs.bodies.put_own_energy.Tie as tie
+use Rattle.hop.proofs.recorded.put_own_energy.Statement.{statement}
+use Rattle.hop.proofs.recorded.put_own_energy.Tie as tie
 
 mul-out : tie.Need-mul-out
 mul-out c = search needs

@@ -4,8 +4,8 @@ use lib.ListN.{length, length-set}
 use borrow.Author.Needs.{needs}
 use Rattle.wire.proofs.PutLaws.{put-nothing, put-length}
 use Rattle.hop.proofs.BodyLaws.{no-levels, put-levelled, levels-room}
-use Rattle.hop.proofs.bodies.put_counted.Statement.{statement}
-use Rattle.hop.proofs.bodies.put_counted.Tie as tie
+use Rattle.hop.proofs.recorded.put_counted.Statement.{statement}
+use Rattle.hop.proofs.recorded.put_counted.Tie as tie
 
 returns : tie.Need-returns
 returns c = rw (no-levels _ _ (c .if1 .taken)) (put-nothing _ _)

@@ -3,8 +3,8 @@ use native.Mathlib.Omega.{arith}
 use lib.ListN.{length, drop, length-set}
 use Rattle.model.specs.Update.{clearEach}
 use Rattle.hop.proofs.RunLaws.{Putting, putting-first, energies-next, energies-lone, energies-done}
-use Rattle.hop.proofs.bodies.put_energies.Statement.{statement}
-use Rattle.hop.proofs.bodies.put_energies.Tie as tie
+use Rattle.hop.proofs.recorded.put_energies.Statement.{statement}
+use Rattle.hop.proofs.recorded.put_energies.Tie as tie
 
 abbrev Inv-loop : tie.InvT-loop
 Inv-loop out₀ at body n i₀ out i = (i ≤ length body) × Putting out₀ at (clearEach body) out i (clearEach (drop i body))

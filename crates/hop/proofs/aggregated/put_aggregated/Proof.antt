@@ -2,8 +2,8 @@ use Prim.Native.Nat.{_≤_}
 use native.Mathlib.Omega.{arith}
 use borrow.Author.Needs.{needs}
 use Rattle.hop.proofs.BodyLaws.{node-value, aggregated-4, aggregated-2, aggregated-node, aggregated-kept}
-use Rattle.hop.proofs.bodies.put_aggregated.Statement.{statement}
-use Rattle.hop.proofs.bodies.put_aggregated.Tie as tie
+use Rattle.hop.proofs.aggregated.put_aggregated.Statement.{statement}
+use Rattle.hop.proofs.aggregated.put_aggregated.Tie as tie
 
 local-or-0-requires : tie.Need-local-or-0-requires
 local-or-0-requires c κs = search needs

@@ -3,8 +3,8 @@ use borrow.Author.Needs.{needs}
 use Rattle.model.specs.Update.{combine}
 use Rattle.wire.proofs.NumberLaws.{number-in}
 use Rattle.hop.proofs.BodyLaws.{on-other, on-field}
-use Rattle.hop.proofs.bodies.put_field_2.Statement.{statement}
-use Rattle.hop.proofs.bodies.put_field_2.Tie as tie
+use Rattle.hop.proofs.aggregated.put_field_2.Statement.{statement}
+use Rattle.hop.proofs.aggregated.put_field_2.Tie as tie
 
 put-bytes-requires : tie.Need-put-bytes-requires
 put-bytes-requires c κs = search needs
