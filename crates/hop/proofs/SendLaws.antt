@@ -168,6 +168,35 @@ built (a ∷ []) n j z r = absurd (omega arith)
 built (a ∷ b ∷ l) n j z r =
     rw (sets-eq j (2 ∷ n ∷ l) 2 (omega arith)) (take-at (2 ∷ n ∷ j) (drop (2 + length j) (2 ∷ n ∷ l)) (2 + length j) (omega arith))
 
+-- bytes copied to the front of an output
+copied : (out w : List ℕ) → length w ≤ length out → sets out 0 w ≡ w ++ drop (length w) out
+copied out w h = sets-eq w out 0 (omega arith) ∙ rw (zero-add (length w))
+
+-- the container, once built, is what is sent
+module _ (own : Own) (c : Neighbour) (bs out l : List ℕ) (w : Sends own c bs out) where
+  sent-bytes : List ℕ
+  sent-bytes = container (update own c (w .objects))
+
+  whole-is : sendsObjects own c (dataObjects bs) ≡ nextHop sent-bytes
+  unfolding sent-bytes
+  whole-is = rw (w .whole, w .noLeaf)
+
+  size-is : {s : Sent} → s ≡ sentOf (sendsObjects own c (dataObjects bs)) → s .size ≡ 2 + length (join (update own c (w .objects)))
+  unfolding sent-bytes
+  size-is p = ap (λ x. x .size) (p ∙ ap sentOf whole-is) ∙ omega arith
+
+  built-is : {m : List ℕ} (n : ℕ) → n ≡ 2 + length (join (update own c (w .objects))) → length l ≡ 257 → m ≡ sets (set (set l 0 2) 1 (n - 2)) 2 (join (update own c (w .objects)))
+      → take n m ≡ sent-bytes
+  unfolding sent-bytes
+  built-is {m} n e len f =
+      let objs = join (update own c (w .objects)) in
+      let d : n - 2 ≡ length objs = omega arith in
+      ap (λ k. take k m) e ∙ ap (take (2 + length objs)) (f ∙ ap (λ k. sets (set (set l 0 2) 1 k) 2 objs) d) ∙ built l (length objs) objs len (w .room)
+
+  room-is : 257 ≤ length out → length sent-bytes ≤ length out
+  unfolding sent-bytes
+  room-is h = omega (arith, w .room)
+
 -- the container, built and copied to the output
 pub send-built : (own : Own) (c : Neighbour) (bs out l : List ℕ) {r : Bool} {s : Sent} {m o : List ℕ} {n : ℕ} → r ≡ unfit own c (length bs) (length out) → r ≡ false
     → s ≡ sentOf (sendsObjects own c (dataObjects bs)) → (s .size ≡ 0 → ⊥) → length l ≡ 257
@@ -175,12 +204,7 @@ pub send-built : (own : Own) (c : Neighbour) (bs out l : List ℕ) {r : Bool} {s
     → (s ≡ sentOf (sends own c bs (length out))) × (o ≡ outputOf (sends own c bs (length out)) out)
 send-built own c bs out l {r} {s} {m} {o} {n} e t p z len f q =
     let w = sends-whole own c bs out p z in
-    let objs = join (update own c (w .objects)) in
-    let sent : sends own c bs (length out) ≡ nextHop (2 ∷ length objs ∷ objs) = fit own c bs out e t ∙ rw (w .whole, w .noLeaf) in
-    let size : s .size ≡ 2 + length objs = ap (λ x. x .size) p ∙ rw (w .whole, w .noLeaf) (omega arith) in
-    let d : s .size - 2 ≡ length objs = omega arith in
-    let m-is : m ≡ sets (set (set l 0 2) 1 (length objs)) 2 objs = f (w .objects) (w .whole) ∙ ap (λ k. sets (set (set l 0 2) 1 k) 2 objs) d in
-    let whole : take (s .size) m ≡ 2 ∷ length objs ∷ objs = ap (λ k. take k m) size ∙ ap (take (2 + length objs)) m-is ∙ built l (length objs) objs len (w .room) in
-    let b = fit-bounds own c bs out e t in
-    let fits : 0 + length (2 ∷ length objs ∷ objs) ≤ length out = omega (arith, b, w .room) in
-    (p ∙ ap sentOf (sym (fit own c bs out e t)), rw sent (q .written ∙ rw whole (sets-eq (2 ∷ length objs ∷ objs) out 0 fits ∙ rw (zero-add (length (2 ∷ length objs ∷ objs))))))
+    let whole : take (s .size) m ≡ sent-bytes own c bs out l w = built-is own c bs out l w (s .size) (size-is own c bs out l w p) len (f (w .objects) (w .whole)) in
+    let sent : sends own c bs (length out) ≡ nextHop (sent-bytes own c bs out l w) = fit own c bs out e t ∙ whole-is own c bs out l w in
+    let room = room-is own c bs out l w (fit-bounds own c bs out e t .3) in
+    (p ∙ ap sentOf (sym (fit own c bs out e t)), q .written ∙ ap (sets out 0) whole ∙ copied out (sent-bytes own c bs out l w) room ∙ sym (ap (λ x. outputOf x out) sent))
