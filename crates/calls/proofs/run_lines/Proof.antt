@@ -1,0 +1,87 @@
+use Prim.Native.Nat.{ℕ, zero, suc, _+_, _-_, _*_, _^_, _≤_, _<_}
+use mathlib.Core.Path.{_≡_, refl, sym, ap, _∙_}
+use mathlib.Core.List.{List, [], _∷_, _++_, map}
+use mathlib.Core.Logic.{⊎-elim}
+use mathlib.Core.Bool.{Bool, true, false}
+use native.Mathlib.Omega.{arith}
+use native.Mathlib.Numerals.{add-one}
+use borrow.Author.Needs.{needs}
+use borrow.Author.Tests.{lt-ltb, le-ltb, le-leb, lt-leb, eq-eqb, ne-eqb, not-true, not-false}
+use lib.ListN.{length, getD, set, take, drop, length-set, length-take, length-drop, replicate, length-append}
+use lib.Seq.{drop-cons, take-suc, take-suc-set, set-split, getD-set-same}
+use Rattle.calls.proofs.run_lines.Statement.{statement}
+use Rattle.calls.proofs.run_lines.Tie as tie
+use Rattle.calls.proofs.run_lines.Reads as reads
+use Rattle.calls.proofs.run_lines.Lts as lts
+use Rattle.calls.proofs.move_to_front.Reads as move-to-front-reads
+use Rattle.calls.proofs.run_line.Reads as run-line-reads
+use Rattle.calls.proofs.words.find.Reads as find-reads
+
+abbrev Inv-loop : tie.InvT-loop
+Inv-loop text₀ at₀ text at = length text ≡ length text₀
+
+abbrev μ-loop : tie.MeasureT-loop
+μ-loop text₀ at₀ text at = length text - at
+
+loop-holds : tie.Need-loop-holds Inv-loop μ-loop
+loop-holds c = search needs
+
+find-requires : tie.Need-find-requires Inv-loop μ-loop
+find-requires c κs = search needs
+
+move-to-front-requires : tie.Need-move-to-front-requires Inv-loop μ-loop
+move-to-front-requires c κs = search needs
+
+same-length : tie.Need-same-length Inv-loop μ-loop
+same-length c = search needs
+
+returns : tie.Need-returns Inv-loop μ-loop
+returns c = search needs
+
+sub-run-line : tie.Need-sub-run-line Inv-loop μ-loop
+sub-run-line c = search needs
+
+part-run-line-start : tie.Need-part-run-line-start Inv-loop μ-loop
+part-run-line-start c = search needs
+
+part-run-line-end : tie.Need-part-run-line-end Inv-loop μ-loop
+part-run-line-end c = search needs
+
+run-line-requires : tie.Need-run-line-requires Inv-loop μ-loop
+run-line-requires c κs = search needs
+
+add-at : tie.Need-add-at Inv-loop μ-loop
+add-at c = search needs
+
+loop-less : tie.Need-loop-less Inv-loop μ-loop
+loop-less c = search needs
+
+loop-again : tie.Need-loop-again Inv-loop μ-loop
+loop-again c = search needs
+
+same-length-2 : tie.Need-same-length-2 Inv-loop μ-loop
+same-length-2 c = search needs
+
+returns-2 : tie.Need-returns-2 Inv-loop μ-loop
+returns-2 c = search needs
+
+pub run-lines-spec : {M : Type 1} → statement M
+run-lines-spec =
+    tie.close
+    (tie.spec
+    Inv-loop
+    μ-loop
+    loop-holds
+    find-requires
+    move-to-front-requires
+    same-length
+    returns
+    sub-run-line
+    part-run-line-start
+    part-run-line-end
+    run-line-requires
+    add-at
+    loop-less
+    loop-again
+    same-length-2
+    returns-2)

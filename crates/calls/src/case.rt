@@ -1,0 +1,140 @@
+// Reading a case.
+ghost use Prim.Native.Nat.{_≤_};
+ghost use lib.ListN.{length};
+use crate::words;
+use model::Candidate;
+use model::Neighbour;
+use model::Own;
+use model::Rank;
+
+const BYTE: u64 = 255;
+
+const SHORT: u64 = 65535;
+
+const WORD: u64 = 4294967295;
+
+const MOST: u64 = 18446744073709551615;
+
+// The limits of minhop, maxincrease, lowest, nodetype, flags, energy, current, room and count.
+const OWN: [u64; 9] = [SHORT, SHORT, SHORT, BYTE, BYTE, BYTE, MOST, 300, MOST];
+
+// The limits of rank, sp, rf, sr, nodetype, flags, energy, lql, etx, latency, throughput, start and size.
+const CANDIDATE: [u64; 13] = [
+    SHORT,
+    BYTE,
+    BYTE,
+    BYTE,
+    BYTE,
+    BYTE,
+    BYTE,
+    BYTE,
+    SHORT,
+    WORD,
+    WORD,
+    MOST,
+    MOST,
+];
+
+// A case but for the lent run, and the index behind it on its line; 0 if there is none.
+pub struct Case {
+    pub own: Own,
+    pub candidates: [Candidate; 16],
+    pub count: usize,
+    pub room: usize,
+    pub next: usize,
+}
+
+// The candidates of a line, and the index behind them; 0 if they are not there.
+struct Candidates {
+    list: [Candidate; 16],
+    next: usize,
+}
+
+// The numbers of a row are within the limits of their fields, so that a remainder is the number.
+fn own_of(r: [u64; 9]) -> Own {
+    Own {
+        minhop: (r[0] % 65536) as u16,
+        maxincrease: (r[1] % 65536) as u16,
+        lowest: Rank((r[2] % 65536) as u16),
+        nodetype: (r[3] % 256) as u8,
+        flags: (r[4] % 256) as u8,
+        energy: (r[5] % 256) as u8,
+        current: r[6] as usize,
+    }
+}
+
+fn neighbour_of(r: [u64; 13]) -> Neighbour {
+    Neighbour {
+        rank: Rank((r[0] % 65536) as u16),
+        sp: (r[1] % 256) as u8,
+        rf: (r[2] % 256) as u8,
+        sr: (r[3] % 256) as u8,
+        nodetype: (r[4] % 256) as u8,
+        flags: (r[5] % 256) as u8,
+        energy: (r[6] % 256) as u8,
+        lql: (r[7] % 256) as u8,
+        etx: (r[8] % 65536) as u16,
+        latency: (r[9] % 4294967296) as u32,
+        throughput: (r[10] % 4294967296) as u32,
+    }
+}
+
+fn candidate_of(r: [u64; 13]) -> Candidate {
+    Candidate {
+        neighbour: neighbour_of(r),
+        start: r[11] as usize,
+        size: r[12] as usize,
+    }
+}
+
+// How many candidates stand on a line.
+fn shown(count: usize) -> usize
+    ensures { λ r. ⌜ r ≤ 16 ⌝ }
+{
+    if count < 16 {
+        return count;
+    }
+    16
+}
+
+// The candidates of a line from an index on.
+fn read_candidates(text: &[u8], from: usize, count: usize) -> Candidates
+    requires { ⌜ from ≤ length (now text) ⌝ }
+    ensures { λ r. ⌜ r .next ≤ length (now (text .entry)) ⌝ }
+{
+    let n = shown(count);
+    let limits = CANDIDATE;
+    let mut row = [0u64; 13];
+    let mut list = [candidate_of(row); 16];
+    let mut at = from;
+    let mut i = 0;
+    while i < n {
+        at = words::numbers(text, at, &limits, &mut row);
+        if at == 0 {
+            return Candidates { list, next: 0 };
+        }
+        list[i] = candidate_of(row);
+        i += 1;
+    }
+    Candidates { list, next: at }
+}
+
+// The case of a line, from the index behind its name on. Where a number is missing, the count is 0 and so is the index behind.
+pub fn read(line: &[u8], from: usize) -> Case
+    requires { ⌜ from ≤ length (now line) ⌝ }
+    ensures { λ r. ⌜ (r .room ≤ 300) × (r .next ≤ length (now (line .entry))) ⌝ }
+{
+    let limits = OWN;
+    let mut row = [0u64; 9];
+    let at = words::numbers(line, from, &limits, &mut row);
+    let count = row[8] as usize;
+    let given = read_candidates(line, at, count);
+    let candidates = given.list;
+    Case {
+        own: own_of(row),
+        candidates,
+        count,
+        room: (row[7] % 301) as usize,
+        next: given.next,
+    }
+}

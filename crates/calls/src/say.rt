@@ -1,0 +1,93 @@
+// Writing the answer of a case.
+use libc::STDOUT_FILENO;
+use model::Answer;
+
+pub fn text(bytes: &[u8]) {
+    io::write_all(STDOUT_FILENO, bytes);
+}
+
+// A number behind a space.
+fn number(n: u64) {
+    text(b" ");
+    io::print_decimal(STDOUT_FILENO, n);
+}
+
+// A byte behind a space.
+fn byte(b: u8) {
+    text(b" ");
+    io::print_hex(STDOUT_FILENO, b as u64, 2);
+}
+
+// The end of a line that is not a case, behind a name of so many bytes.
+pub fn unreadable(size: usize) {
+    if 0 < size {
+        text(b" ");
+    }
+    text(b"unreadable\n");
+}
+
+// A verdict, and its place if it has one.
+fn verdict(v: u8, place: u16) {
+    number(v as u64);
+    if place != 65535 {
+        text(b"@");
+        io::print_decimal(STDOUT_FILENO, place as u64);
+    }
+}
+
+// The verdicts of the first candidates, so many as the count says, and whether any other is set.
+fn verdicts(answer: Answer, count: usize) {
+    let numbers = answer.verdicts;
+    let places = answer.places;
+    let mut beyond = false;
+    let mut i = 0;
+    while i < 16 {
+        let v = numbers[i];
+        let place = places[i];
+        if i < count {
+            verdict(v, place);
+        } else {
+            beyond = beyond | (v != 0) | (place != 65535);
+        }
+        i += 1;
+    }
+    if beyond {
+        text(b" beyond");
+    }
+}
+
+// The first bytes of an output, so many as the size says, and whether all others are as before.
+fn output(out: &[u8], size: u16) {
+    let n = size as usize;
+    let mut kept = true;
+    let mut i = 0;
+    while i < out.len() {
+        let b = out[i];
+        if i < n {
+            byte(b);
+        } else {
+            kept = kept & (b == 0xEE);
+        }
+        i += 1;
+    }
+    if kept {
+        text(b" kept\n");
+    } else {
+        text(b" changed\n");
+    }
+}
+
+// The answer of a call with so many candidates, and the output behind it.
+pub fn answer(given: Answer, count: usize, out: &[u8]) {
+    number(given.refusal as u64);
+    number(given.parent as u64);
+    number(given.rank.0 as u64);
+    number(given.bits as u64);
+    number(given.count as u64);
+    number(given.leaf as u64);
+    number(given.size as u64);
+    text(b" verdicts");
+    verdicts(given, count);
+    text(b" output");
+    output(out, given.size);
+}
