@@ -51,39 +51,39 @@ struct Candidates {
 }
 
 // The numbers of a row are within the limits of their fields, so that a remainder is the number.
-fn own_of(r: [u64; 9]) -> Own {
+fn own_of(row: [u64; 9]) -> Own {
     Own {
-        minhop: (r[0] % 65536) as u16,
-        maxincrease: (r[1] % 65536) as u16,
-        lowest: Rank((r[2] % 65536) as u16),
-        nodetype: (r[3] % 256) as u8,
-        flags: (r[4] % 256) as u8,
-        energy: (r[5] % 256) as u8,
-        current: r[6] as usize,
+        minhop: (row[0] % 65536) as u16,
+        maxincrease: (row[1] % 65536) as u16,
+        lowest: Rank((row[2] % 65536) as u16),
+        nodetype: (row[3] % 256) as u8,
+        flags: (row[4] % 256) as u8,
+        energy: (row[5] % 256) as u8,
+        current: row[6] as usize,
     }
 }
 
-fn neighbour_of(r: [u64; 13]) -> Neighbour {
+fn neighbour_of(row: [u64; 13]) -> Neighbour {
     Neighbour {
-        rank: Rank((r[0] % 65536) as u16),
-        sp: (r[1] % 256) as u8,
-        rf: (r[2] % 256) as u8,
-        sr: (r[3] % 256) as u8,
-        nodetype: (r[4] % 256) as u8,
-        flags: (r[5] % 256) as u8,
-        energy: (r[6] % 256) as u8,
-        lql: (r[7] % 256) as u8,
-        etx: (r[8] % 65536) as u16,
-        latency: (r[9] % 4294967296) as u32,
-        throughput: (r[10] % 4294967296) as u32,
+        rank: Rank((row[0] % 65536) as u16),
+        sp: (row[1] % 256) as u8,
+        rf: (row[2] % 256) as u8,
+        sr: (row[3] % 256) as u8,
+        nodetype: (row[4] % 256) as u8,
+        flags: (row[5] % 256) as u8,
+        energy: (row[6] % 256) as u8,
+        lql: (row[7] % 256) as u8,
+        etx: (row[8] % 65536) as u16,
+        latency: (row[9] % 4294967296) as u32,
+        throughput: (row[10] % 4294967296) as u32,
     }
 }
 
-fn candidate_of(r: [u64; 13]) -> Candidate {
+fn candidate_of(row: [u64; 13]) -> Candidate {
     Candidate {
-        neighbour: neighbour_of(r),
-        start: r[11] as usize,
-        size: r[12] as usize,
+        neighbour: neighbour_of(row),
+        start: row[11] as usize,
+        size: row[12] as usize,
     }
 }
 

@@ -1,13 +1,13 @@
 // Runs `choice::call` on the cases of its input, one to a line, and writes a line for each.
 // A case: NAME minhop maxincrease lowest nodetype flags energy current room count, then for each candidate (16 at most stand on
 // the line, whatever the count) rank sp rf sr nodetype flags energy lql etx latency throughput start size, then the bytes of the
-// lent run. Words are apart by one space; numbers are decimal, bytes two hexadecimal digits. The fields are those
-// of `Own` and `Candidate`; room is the length of the lent output, 300 at most, whose bytes are all 0xEE before the call.
+// lent run. One space is between two words; numbers are decimal, bytes two hexadecimal digits. The numbers are the fields of `Own`
+// and `Candidate`; room is the length of the lent output, 300 at most, whose bytes are all 0xEE before the call.
 // The answer: NAME refusal parent rank bits count leaf size, `verdicts` and those of the candidates on the line, each with `@` and
 // its place if it has one, `beyond` if any other verdict or place is set, `output` and the first `size` bytes of the output, then
 // `kept` if all bytes behind them are still 0xEE, else `changed`. No parent is 255, no rank 65535, as in `Answer`.
-// A line of another form has the answer NAME unreadable, or `unreadable` if it has no name. Lines have 65,536 bytes at most: of a
-// longer one each 65,536 bytes are taken for a line.
+// A line of another form has the answer NAME `unreadable`, or `unreadable` if it has no name. A line has 65,536 bytes at most, its
+// end among them; of a longer one each 65,536 bytes are taken for a line.
 ghost use Prim.Native.Nat.{_≤_};
 ghost use lib.ListN.{length};
 use libc::STDIN_FILENO;
@@ -16,7 +16,7 @@ mod case;
 mod say;
 mod words;
 
-// More turns of reading than any input needs that is not far beyond a gigabyte.
+// How often the buffer is filled at most: a bound for the loop, which only an input of some gigabytes reaches.
 const TURNS: u32 = 65536;
 
 // What is left of a reading: the bytes held at the front of the buffer, and whether the input is at its end.

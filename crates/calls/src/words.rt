@@ -1,5 +1,5 @@
 // Reading the words of a line.
-ghost use Prim.Native.Nat.{_≤_};
+ghost use Prim.Native.Nat.{_+_, _≤_};
 ghost use mathlib.Core.Path.{_≡_};
 ghost use lib.ListN.{length};
 
@@ -52,14 +52,17 @@ fn digit(byte: u8) -> u8
     16
 }
 
-// The number of the decimal digits from an index on; none if there is no digit or it is beyond 64 bits.
+// The number of the decimal digits behind a space at an index; none if there is no such digit or it is beyond 64 bits.
 fn decimal(text: &[u8], from: usize) -> Number
     requires { ⌜ from ≤ length (now text) ⌝ }
     ensures { λ r. ⌜ r .next ≤ length (now (text .entry)) ⌝ }
 {
     let none = Number { value: 0, next: 0 };
+    if text.len() <= from {
+        return none;
+    }
     let mut value: u64 = 0;
-    let mut at = from;
+    let mut at = from + 1;
     while at < text.len() {
         let d = digit(text[at]) as u64;
         if 9 < d {
@@ -75,13 +78,13 @@ fn decimal(text: &[u8], from: usize) -> Number
         value = tens + d;
         at += 1;
     }
-    if at == from {
+    if (text[from] != b' ') | (at == from + 1) {
         return none;
     }
     Number { value, next: at }
 }
 
-// Reads a number for each limit, a space before it, and none above its limit; answers the index behind the last, or 0.
+// Reads a number for each limit, and none above its limit; answers the index behind the last, or 0.
 pub fn numbers(text: &[u8], from: usize, limits: &[u64], out: &mut [u64]) -> usize
     requires { ⌜ from ≤ length (now text) ⌝ }
     requires { ⌜ length (now limits) ≡ length (now out) ⌝ }
@@ -90,13 +93,7 @@ pub fn numbers(text: &[u8], from: usize, limits: &[u64], out: &mut [u64]) -> usi
     let mut at = from;
     let mut i = 0;
     while i < limits.len() {
-        if text.len() <= at {
-            return 0;
-        }
-        if text[at] != b' ' {
-            return 0;
-        }
-        let n = decimal(text, at + 1);
+        let n = decimal(text, at);
         if (n.next == 0) | (limits[i] < n.value) {
             return 0;
         }
@@ -107,8 +104,20 @@ pub fn numbers(text: &[u8], from: usize, limits: &[u64], out: &mut [u64]) -> usi
     at
 }
 
-// Puts the bytes that groups of a space and two digits stand for at the start of out; answers how many, up to what is no such
-// group, or the end of out.
+// The byte of a space and two hexadecimal digits at an index; 256 if these three bytes are something else.
+fn byte(text: &[u8], at: usize) -> u16
+    requires { ⌜ at + 3 ≤ length (now text) ⌝ }
+    ensures { λ r. ⌜ r ≤ 256 ⌝ }
+{
+    let high = digit(text[at + 1]) as u16;
+    let low = digit(text[at + 2]) as u16;
+    if (text[at] != b' ') | (high == 16) | (low == 16) {
+        return 256;
+    }
+    (high * 16 + low) % 256
+}
+
+// Puts the bytes of such groups, end to end, at the start of out; answers how many, up to what is none, or the end of out.
 pub fn bytes(text: &[u8], out: &mut [u8]) -> usize
     ensures { λ r. ⌜ r ≤ length (now (out .exit)) ⌝ }
 {
@@ -118,12 +127,11 @@ pub fn bytes(text: &[u8], out: &mut [u8]) -> usize
         if text.len() - at < 3 {
             return n;
         }
-        let high = digit(text[at + 1]);
-        let low = digit(text[at + 2]);
-        if (text[at] != b' ') | (15 < high) | (15 < low) {
+        let b = byte(text, at);
+        if b == 256 {
             return n;
         }
-        out[n] = high % 16 * 16 + low % 16;
+        out[n] = b as u8;
         n += 1;
         at += 3;
     }

@@ -1,18 +1,9 @@
-use Prim.Native.Nat.{ℕ, zero, suc, _+_, _-_, _*_, _^_, _≤_, _<_}
-use mathlib.Core.Path.{_≡_, refl, sym, ap, _∙_}
-use mathlib.Core.List.{List, [], _∷_, _++_, map}
-use mathlib.Core.Logic.{⊎-elim}
-use mathlib.Core.Bool.{Bool, true, false}
-use native.Mathlib.Omega.{arith}
-use native.Mathlib.Numerals.{add-one}
+use Prim.Native.Nat.{_-_, _≤_}
+use mathlib.Core.Path.{_≡_}
 use borrow.Author.Needs.{needs}
-use borrow.Author.Tests.{lt-ltb, le-ltb, le-leb, lt-leb, eq-eqb, ne-eqb, not-true, not-false}
-use lib.ListN.{length, getD, set, take, drop, length-set, length-take, length-drop, replicate, length-append}
-use lib.Seq.{drop-cons, take-suc, take-suc-set, set-split, getD-set-same}
+use lib.ListN.{length}
 use Rattle.calls.proofs.move_to_front.Statement.{statement}
 use Rattle.calls.proofs.move_to_front.Tie as tie
-use Rattle.calls.proofs.move_to_front.Reads as reads
-use Rattle.calls.proofs.move_to_front.Lts as lts
 
 abbrev Inv-loop : tie.InvT-loop
 Inv-loop text₀ from n i₀ text i = (i ≤ n) × (length text ≡ length text₀)

@@ -1,25 +1,8 @@
-use Prim.Native.Nat.{ℕ, zero, suc, _+_, _-_, _*_, _^_, _≤_, _<_}
-use mathlib.Core.Path.{_≡_, refl, sym, ap, _∙_}
-use mathlib.Core.List.{List, [], _∷_, _++_, map}
-use mathlib.Core.Logic.{⊎-elim}
-use mathlib.Core.Bool.{Bool, true, false}
-use native.Mathlib.Omega.{arith}
-use native.Mathlib.Numerals.{add-one}
-use borrow.Author.Tests.{lt-ltb, le-ltb, le-leb, lt-leb, eq-eqb, ne-eqb, not-true, not-false}
-use lib.ListN.{length, getD, set, take, drop, length-set, length-take, length-drop, replicate, length-append}
-use lib.Seq.{length-take-le, drop-cons, take-suc, take-suc-set, set-split, getD-set-same}
+use mathlib.Core.Path.{sym}
+use lib.Seq.{length-take-le}
 use borrow.Author.Needs.{needs}
 use Rattle.calls.proofs.run_line.Statement.{statement}
 use Rattle.calls.proofs.run_line.Tie as tie
-use Rattle.calls.proofs.run_line.Reads as reads
-use Rattle.calls.proofs.run_line.Lts as lts
-use Rattle.calls.proofs.case.read.Reads as read-reads
-use Rattle.calls.proofs.run_case.Reads as run-case-reads
-use Rattle.calls.proofs.say.text.Reads as text-reads
-use Rattle.calls.proofs.say.unreadable.Reads as unreadable-reads
-use Rattle.calls.proofs.words.bytes.Reads as bytes-reads
-use Rattle.calls.proofs.words.find.Reads as find-reads
-use Rattle.io.proofs.large_buffer.Reads as large-buffer-reads
 
 find-requires : tie.Need-find-requires
 find-requires c κs = search needs

@@ -1,21 +1,9 @@
-use Prim.Native.Nat.{ℕ, zero, suc, _+_, _-_, _*_, _^_, _≤_, _<_}
-use mathlib.Core.Path.{_≡_, refl, sym, ap, _∙_}
-use mathlib.Core.List.{List, [], _∷_, _++_, map}
-use mathlib.Core.Logic.{⊎-elim}
-use mathlib.Core.Bool.{Bool, true, false}
-use native.Mathlib.Omega.{arith}
-use native.Mathlib.Numerals.{add-one}
+use Prim.Native.Nat.{_-_}
+use mathlib.Core.Path.{_≡_}
 use borrow.Author.Needs.{needs}
-use borrow.Author.Tests.{lt-ltb, le-ltb, le-leb, lt-leb, eq-eqb, ne-eqb, not-true, not-false}
-use lib.ListN.{length, getD, set, take, drop, length-set, length-take, length-drop, replicate, length-append}
-use lib.Seq.{drop-cons, take-suc, take-suc-set, set-split, getD-set-same}
+use lib.ListN.{length}
 use Rattle.calls.proofs.run_lines.Statement.{statement}
 use Rattle.calls.proofs.run_lines.Tie as tie
-use Rattle.calls.proofs.run_lines.Reads as reads
-use Rattle.calls.proofs.run_lines.Lts as lts
-use Rattle.calls.proofs.move_to_front.Reads as move-to-front-reads
-use Rattle.calls.proofs.run_line.Reads as run-line-reads
-use Rattle.calls.proofs.words.find.Reads as find-reads
 
 abbrev Inv-loop : tie.InvT-loop
 Inv-loop text₀ at₀ text at = length text ≡ length text₀

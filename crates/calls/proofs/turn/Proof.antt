@@ -1,21 +1,10 @@
-use Prim.Native.Nat.{ℕ, zero, suc, _+_, _-_, _*_, _^_, _≤_, _<_}
-use mathlib.Core.Path.{_≡_, refl, sym, ap, _∙_}
-use mathlib.Core.List.{List, [], _∷_, _++_, map}
-use mathlib.Core.Logic.{⊎-elim}
-use mathlib.Core.Bool.{Bool, true, false}
+use mathlib.Core.Path.{sym}
 use native.Mathlib.Omega.{arith}
-use native.Mathlib.Numerals.{add-one}
-use borrow.Author.Tests.{lt-ltb, le-ltb, le-leb, lt-leb, eq-eqb, ne-eqb, not-true, not-false}
-use lib.ListN.{length, getD, set, take, drop, length-set, length-take, length-drop, replicate, length-append}
-use lib.Seq.{length-take-le, drop-cons, take-suc, take-suc-set, set-split, getD-set-same}
+use lib.ListN.{length-append}
+use lib.Seq.{length-take-le}
 use borrow.Author.Needs.{needs}
 use Rattle.calls.proofs.turn.Statement.{statement}
 use Rattle.calls.proofs.turn.Tie as tie
-use Rattle.calls.proofs.turn.Reads as reads
-use Rattle.calls.proofs.turn.Lts as lts
-use Rattle.calls.proofs.fill.Reads as fill-reads
-use Rattle.calls.proofs.run_line.Reads as run-line-reads
-use Rattle.calls.proofs.run_lines.Reads as run-lines-reads
 
 fill-requires : tie.Need-fill-requires
 fill-requires c κs = search needs

@@ -1,21 +1,10 @@
-use Prim.Native.Nat.{ℕ, zero, suc, _+_, _-_, _*_, _^_, _≤_, _<_}
-use mathlib.Core.Path.{_≡_, refl, sym, ap, _∙_}
-use mathlib.Core.List.{List, [], _∷_, _++_, map}
-use mathlib.Core.Logic.{⊎-elim}
-use mathlib.Core.Bool.{Bool, true, false}
+use Prim.Native.Nat.{_-_, _≤_}
+use mathlib.Core.Path.{_≡_, _∙_}
 use native.Mathlib.Omega.{arith}
-use native.Mathlib.Numerals.{add-one}
 use borrow.Author.Needs.{needs}
-use borrow.Author.Tests.{lt-ltb, le-ltb, le-leb, lt-leb, eq-eqb, ne-eqb, not-true, not-false}
-use lib.ListN.{length, getD, set, take, drop, length-set, length-take, length-drop, replicate, length-append}
-use lib.Seq.{drop-cons, take-suc, take-suc-set, set-split, getD-set-same}
+use lib.ListN.{length, length-set}
 use Rattle.calls.proofs.case.read_candidates.Statement.{statement}
 use Rattle.calls.proofs.case.read_candidates.Tie as tie
-use Rattle.calls.proofs.case.read_candidates.Reads as reads
-use Rattle.calls.proofs.case.read_candidates.Lts as lts
-use Rattle.calls.proofs.case.candidate_of.Reads as candidate-of-reads
-use Rattle.calls.proofs.case.shown.Reads as shown-reads
-use Rattle.calls.proofs.words.numbers.Reads as numbers-reads
 
 abbrev Inv-loop : tie.InvT-loop
 Inv-loop text from count n limits row₀ list₀ at₀ i₀ row list at i = (at ≤ length text) × ((i ≤ n) × ((length row ≡ 13) × (length list ≡ 16)))

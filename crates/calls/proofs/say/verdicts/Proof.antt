@@ -1,20 +1,9 @@
-use Prim.Native.Nat.{ℕ, zero, suc, _+_, _-_, _*_, _^_, _≤_, _<_}
-use mathlib.Core.Path.{_≡_, refl, sym, ap, _∙_}
-use mathlib.Core.List.{List, [], _∷_, _++_, map}
-use mathlib.Core.Logic.{⊎-elim}
-use mathlib.Core.Bool.{Bool, true, false}
-use native.Mathlib.Omega.{arith}
-use native.Mathlib.Numerals.{add-one}
+use Prim.Native.Nat.{_-_, _≤_}
+use mathlib.Core.Path.{_≡_}
 use borrow.Author.Needs.{needs}
-use borrow.Author.Tests.{lt-ltb, le-ltb, le-leb, lt-leb, eq-eqb, ne-eqb, not-true, not-false}
-use lib.ListN.{length, getD, set, take, drop, length-set, length-take, length-drop, replicate, length-append}
-use lib.Seq.{drop-cons, take-suc, take-suc-set, set-split, getD-set-same}
+use lib.ListN.{length}
 use Rattle.calls.proofs.say.verdicts.Statement.{statement}
 use Rattle.calls.proofs.say.verdicts.Tie as tie
-use Rattle.calls.proofs.say.verdicts.Reads as reads
-use Rattle.calls.proofs.say.verdicts.Lts as lts
-use Rattle.calls.proofs.say.text.Reads as text-reads
-use Rattle.calls.proofs.say.verdict.Reads as verdict-reads
 
 abbrev Inv-loop : tie.InvT-loop
 Inv-loop count numbers places beyond₀ i₀ t9 beyond i = (i ≤ 16) × ((length numbers ≡ 16) × (length places ≡ 16))
