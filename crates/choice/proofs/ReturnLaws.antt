@@ -17,6 +17,7 @@ use Rattle.model.proofs.CallLaws.{call-is, unrefused}
 use Rattle.hop.specs.declared.sending.Sent.{Sent}
 use Rattle.hop.specs.Sent.{sentOf, sends}
 use Rattle.choice.specs.Given.{given}
+use Rattle.choice.specs.Demand3.{Returned}
 use Rattle.choice.specs.Answered.{refusedAnswer, noRank, nothing, answerWith}
 use Rattle.choice.proofs.GivenLaws.{given-length, given-within}
 use Rattle.choice.proofs.PassLaws.{Gathered}
@@ -77,3 +78,8 @@ module _ (own : Own) (cs : List Candidate) (n : ℕ) (lent out : List ℕ) where
           let f : sends own (c .neighbour) (take (c .start + c .size - c .start) (drop (c .start) lent)) (length out) ≡ outgoing own (take n cs) lent (Parent p rank) =
           rw (add-sub-cancel-left (c .start) (c .size)) (parent-sends own cs lent n d p rank (sym (g .chosen) ∙ b) (length out) (u .knownType) (u .room) byte) in
           rw (a, x, y) (answered-returns (Parent p rank) b _ f)
+
+-- both parts of the contract, and what demand 3 asks of them
+pub as-returned : {own : Own} {cs : List Candidate} {n : ℕ} {lent out : List ℕ} {r : Answer} {left : List ℕ} → Returns own cs n lent out r left
+    → (r ≡ call own (given cs n) lent out .answer) × ((left ≡ call own (given cs n) lent out .output) × Returned own cs n lent out (record { answer = r; output = left }))
+as-returned (a, o) = (a, (o, record { answer = a; output = o }))

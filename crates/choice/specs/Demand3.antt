@@ -9,7 +9,7 @@ use Rattle.model.specs.Choice.{Result, call}
 use Rattle.model.specs.Unknown.{Each, CutBeside, Demand3}
 use Rattle.choice.specs.Given.{given}
 
--- the contract of `call`: an answer, and an output as it is left
+-- what `call` ensures of the answer it returns and the output as it leaves it
 pub record Returned (own : Own) (array : List Candidate) (count : ℕ) (lent out : List ℕ) (r : Result) : Type 0 where
   pub answer : r .answer ≡ call own (given array count) lent out .answer
   pub output : r .output ≡ call own (given array count) lent out .output

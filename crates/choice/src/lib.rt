@@ -2,6 +2,7 @@
 ghost use mathlib.Core.Path.{_≡_};
 ghost use Rattle.model.specs.Choice.{call};
 ghost use Rattle.choice.specs.Given.{given};
+ghost use Rattle.choice.specs.Demand3.{Returned};
 use model::Answer;
 use model::Candidate;
 use model::Choice;
@@ -21,6 +22,7 @@ pub fn call(
 ) -> Answer
     ensures { λ r. ⌜ r ≡ call own (given candidates count) (now (lent .entry)) (now (out .entry)) .answer ⌝ }
     ensures written { λ r. ⌜ now (out .exit) ≡ call own (given candidates count) (now (lent .entry)) (now (out .entry)) .output ⌝ }
+    ensures returned { λ r. ⌜ Returned own candidates count (now (lent .entry)) (now (out .entry)) (record { answer = r; output = now (out .exit) }) ⌝ }
 {
     let refusal = refusals::refusal_of(own, count, out.len());
     if refusal != 0 {

@@ -9,7 +9,7 @@ use Rattle.model.specs.Choice.{choiceOf}
 use Rattle.choice.specs.Given.{blank}
 use Rattle.choice.proofs.PassLaws.{Pass, gathered-none, pass-more, pass-fits, pass-end}
 use Rattle.choice.proofs.ParentLaws.{parent-at, parent-inside}
-use Rattle.choice.proofs.ReturnLaws.{runs, refused-returns, nobody-returns, parent-returns}
+use Rattle.choice.proofs.ReturnLaws.{runs, refused-returns, nobody-returns, parent-returns, as-returned}
 use Rattle.choice.proofs.call.Statement.{statement}
 use Rattle.choice.proofs.call.Tie as tie
 
@@ -46,7 +46,7 @@ refused-requires c κs = search needs
 returns : tie.Need-returns Inv-loop μ-loop
 returns c =
     let args = c .before .before .before .before .before .args in
-    refused-returns (args .own) (args .t2) (args .count) (args .lent .now) (args .out .now) (c .before .before .refusal-of .ensures) (c .before .if1 .taken) (c .refused .ensures)
+    as-returned (refused-returns (args .own) (args .t2) (args .count) (args .lent .now) (args .out .now) (c .before .before .refusal-of .ensures) (c .before .if1 .taken) (c .refused .ensures))
 
 loop-holds : tie.Need-loop-holds Inv-loop μ-loop
 loop-holds c =
@@ -139,8 +139,8 @@ returns-2 : tie.Need-returns-2 Inv-loop μ-loop
 returns-2 c =
     let at-end = c .before .before .before in
     let args = at-end .before .before .before .before .before .before .args in
-    nobody-returns (args .own) (args .t2) (args .count) (args .lent .now) (args .out .now) (at-end .before .before .before .refusal-of .ensures) (at-end .before .before .if1 .left) (at-end .before .loop .inv .array)
-    (pass-end (at-end .before .loop .inv) (at-end .loop-test .left)) (c .before .enum-told .given .1) (c .without-parent .ensures)
+    as-returned (nobody-returns (args .own) (args .t2) (args .count) (args .lent .now) (args .out .now) (at-end .before .before .before .refusal-of .ensures) (at-end .before .before .if1 .left) (at-end .before .loop .inv .array)
+    (pass-end (at-end .before .loop .inv) (at-end .loop-test .left)) (c .before .enum-told .given .1) (c .without-parent .ensures))
 
 same-length : tie.Need-same-length Inv-loop μ-loop
 same-length c = search needs
@@ -151,8 +151,8 @@ returns-3 c =
     let at-end = match .before .before in
     let args = at-end .before .before .before .before .before .before .args in
     let byte = at-end .before .before .before .before .before .shared-slice-known .given (getD (args .t2) (match .best .given .0 .0) blank .start + 1) in
-    parent-returns (args .own) (args .t2) (args .count) (args .lent .now) (args .out .now) (at-end .before .before .before .refusal-of .ensures) (at-end .before .before .if1 .left) (at-end .before .loop .inv .array)
-    (pass-end (at-end .before .loop .inv) (at-end .loop-test .left)) blank _ _ (omega arith) (match .best .given .1) (c .before .before .before .send .ensures) (c .answered .ensures)
+    as-returned (parent-returns (args .own) (args .t2) (args .count) (args .lent .now) (args .out .now) (at-end .before .before .before .refusal-of .ensures) (at-end .before .before .if1 .left) (at-end .before .loop .inv .array)
+    (pass-end (at-end .before .loop .inv) (at-end .loop-test .left)) blank _ _ (omega arith) (match .best .given .1) (c .before .before .before .send .ensures) (c .answered .ensures))
 
 pub call-spec : {M : Type 1} → statement M
 call-spec =
