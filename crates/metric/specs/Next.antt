@@ -1,4 +1,4 @@
--- Inside the crate: parts of the model's update by kind, as code has them.
+-- Parts of the model's update by kind, as the functions of the crate give them.
 use Prim.Native.Nat.{ℕ, _/_, _%_}
 use mathlib.Core.Bool.{Bool, cond, not, _&&_, _||_}
 use lib.Dec.{ltb, eqb}

@@ -1,4 +1,4 @@
--- When a constraint is met, by the type and the bits that code tests; and bars 18 and 19.
+-- When a constraint is met, by the type and the bits that code tests.
 use mathlib.Core.Path.{_≡_, refl}
 use Prim.Native.Nat.{ℕ, zero, suc, _/_, _%_}
 use mathlib.Core.Bool.{Bool, true, false, cond, not, _&&_, _||_, true≢false, false≢true}
@@ -14,7 +14,7 @@ use Rattle.model.specs.Number.{isSet, knownIf, satisfies, isUnknown, num
 use Rattle.model.specs.Object.{Object, bitO, Kind, unknown, lql, node, scalar, throughput, latency, etx, kindOf, kind, known, Role, constraint, recorded, aggregated, role, isConstraint}
 use Rattle.model.specs.Table.{row}
 use Rattle.model.specs.Reading.{fixedShape, shaped}
-use Rattle.model.specs.Constraint.{isAggregator, isOverloaded, energyIn, linkValue, metNsa, metNe, met, mandatory, constraintBar}
+use Rattle.model.specs.Constraint.{isAggregator, isOverloaded, energyIn, linkValue, metNsa, metNe, met, mandatory}
 
 -- ---- a number that is known where its bit is 1
 
@@ -119,7 +119,7 @@ met-unknown c s t b e = go (kindOf t) e
     go (node n) e = absurd (true≢false e)
     go (scalar x) e = absurd (true≢false e)
 
--- ---- bars 18 and 19 by the tests
+-- ---- mandatory constraints
 
 -- the body of a mandatory constraint that is as tabled
 pub mandatory-fixed : (o : Object) → mandatory o ≡ true → shaped (role o) (row (kind o)) (o .body) ≡ true → fixedShape (row (kind o)) (o .body) ≡ true
@@ -129,20 +129,3 @@ mandatory-fixed o m h = go (role o) m h
     go constraint m h = h
     go recorded m h = absurd (false≢true m)
     go aggregated m h = h
-
-module _ (c : Neighbour) (s : Summary) (o : Object) where
-  pub bar-optional : mandatory o ≡ false → 0 ≡ constraintBar c s o
-  unfolding constraintBar
-  bar-optional m = rw m
-
-  pub bar-18 : mandatory o ≡ true → known (kind o) ≡ false → 18 ≡ constraintBar c s o
-  unfolding constraintBar
-  bar-18 m k = rw (m, k)
-
-  pub bar-19 : mandatory o ≡ true → known (kind o) ≡ true → (r : Bool) → r ≡ met c s (kind o) (o .body) → r ≡ false → 19 ≡ constraintBar c s o
-  unfolding constraintBar
-  bar-19 m k r e q = rw (m, k, ← e, q)
-
-  pub bar-met : mandatory o ≡ true → known (kind o) ≡ true → (r : Bool) → r ≡ met c s (kind o) (o .body) → r ≡ true → 0 ≡ constraintBar c s o
-  unfolding constraintBar
-  bar-met m k r e q = rw (m, k, ← e, q)

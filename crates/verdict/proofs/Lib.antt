@@ -1,3 +1,4 @@
 pub mod PassLaws
 pub mod JudgeLaws
 pub mod GrowthLaws
+pub mod HoldLaws

@@ -1,20 +1,25 @@
 -- Inside the crate: what its functions say of one another.
 use mathlib.Core.Path.{_≡_}
 use Prim.Native.Nat.{ℕ}
-use mathlib.Core.Bool.{true}
+use mathlib.Core.Bool.{Bool, true, cond}
 use mathlib.Core.List.{List}
+use lib.Dec.{eqb}
 use Rattle.model.specs.declared.Neighbour.{Neighbour}
 use Rattle.model.specs.declared.Summary.{Summary}
 use Rattle.model.specs.Number.{firstOf, indexOf}
 use Rattle.model.specs.Object.{Object, kind, known, role}
 use Rattle.model.specs.Table.{row}
 use Rattle.model.specs.Reading.{shaped, reading, wellFormed}
-use Rattle.model.specs.Constraint.{constraintBar}
+use Rattle.model.specs.Constraint.{unknownMandatory, unmet, constraintBar}
 use Rattle.verdict.specs.declared.candidate.Barring.{Barring}
 
 -- an object whose body is as tabled, if its type is known
 abbrev pub Tabled : Object → Type 0
 Tabled o = known (kind o) ≡ true → shaped (role o) (row (kind o)) (o .body) ≡ true
+
+-- bar 18, or 19 by any other number, at an object
+unfoldable pub barHolds : (bar : ℕ) → Neighbour → Summary → Object → Bool
+barHolds n c s o = cond (eqb n 18) (unknownMandatory o) (unmet c s o)
 
 -- a container that is well-formed
 pub record WellFormed (bs : List ℕ) : Type 0 where

@@ -49,14 +49,12 @@ fn first_barring(neighbour: Neighbour, summary: Summary, container: &[u8]) -> Ba
                 end,
                 next,
             } => {
-                let number = constraints::constraint_bar(
-                    neighbour,
-                    summary,
-                    header,
-                    &container[start..end],
-                );
-                if number != 0 {
-                    break 'objects Barring { number, place };
+                let mut bar: u8 = 18;
+                while bar < 20 {
+                    if constraints::holds(bar, neighbour, summary, header, &container[start..end]) {
+                        break 'objects Barring { number: bar, place };
+                    }
+                    bar += 1;
                 }
                 place += 1;
                 cursor = next;

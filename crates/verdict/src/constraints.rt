@@ -8,9 +8,9 @@ ghost use Rattle.model.specs.Number.{satisfies};
 ghost use Rattle.model.specs.Object.{kindOf, throughput, latency, etx};
 ghost use Rattle.model.specs.Table.{row};
 ghost use Rattle.model.specs.Reading.{fixedShape};
-ghost use Rattle.model.specs.Constraint.{isAggregator, isOverloaded, energyIn, linkValue, metNsa, metNe, met, mandatory, constraintBar};
+ghost use Rattle.model.specs.Constraint.{isAggregator, isOverloaded, energyIn, linkValue, metNsa, metNe, met, mandatory};
 ghost use Rattle.wire.specs.Step.{objectOf};
-ghost use Rattle.verdict.specs.Judged.{Tabled};
+ghost use Rattle.verdict.specs.Judged.{Tabled, barHolds};
 use model::Neighbour;
 use model::Quantity;
 use model::Summary;
@@ -112,19 +112,19 @@ fn is_met(neighbour: Neighbour, summary: Summary, mctype: u8, body: &[u8]) -> bo
     false
 }
 
-// The lower of 18 and 19 at an object; 0 for none. Most objects are no mandatory constraints.
-pub fn constraint_bar(neighbour: Neighbour, summary: Summary, header: Header, body: &[u8]) -> u8
+// Whether bar 18, or 19 by any other number, holds of an object. Most objects are no mandatory constraints.
+pub fn holds(bar: u8, neighbour: Neighbour, summary: Summary, header: Header, body: &[u8]) -> bool
     requires { ⌜ Tabled (objectOf header (now body)) ⌝ }
-    ensures { λ r. ⌜ r ≡ constraintBar neighbour summary (objectOf header (now (body .entry))) ⌝ }
+    ensures { λ r. ⌜ r ≡ barHolds bar neighbour summary (objectOf header (now (body .entry))) ⌝ }
 {
     if !is_mandatory(header) {
-        return 0;
+        return false;
     }
     if !wire::is_known(header.mctype) {
-        return 18;
+        return bar == 18;
     }
-    if !is_met(neighbour, summary, header.mctype, body) {
-        return 19;
+    if bar == 18 {
+        return false;
     }
-    0
+    !is_met(neighbour, summary, header.mctype, body)
 }

@@ -1,10 +1,19 @@
-use Rattle.wire.proofs.StepLaws.{left, step-inside}
-use Rattle.verdict.proofs.PassLaws.{Pass, pass-first, pass-found, pass-place, pass-tabled, pass-barred, pass-clear, pass-whole}
+use Prim.Native.Nat.{_-_}
 use mathlib.Core.Path.{sym, _∙_}
 use native.Mathlib.Omega.{arith}
 use borrow.Author.Needs.{needs}
+use Rattle.wire.specs.Step.{objectIn}
+use Rattle.wire.proofs.StepLaws.{left, step-inside}
+use Rattle.verdict.proofs.PassLaws.{Pass, pass-first, pass-found, pass-place, pass-tabled, pass-barred, pass-clear, pass-whole}
+use Rattle.verdict.proofs.HoldLaws.{Tested, none, tested-next, tested-bars, tested-clear, tested-number}
 use Rattle.verdict.proofs.candidate.first_barring.Statement.{statement}
 use Rattle.verdict.proofs.candidate.first_barring.Tie as tie
+
+abbrev Inv-loop : tie.InvT-loop
+Inv-loop neighbour summary container place header start end next bar₀ bar = Tested neighbour summary (objectIn container header start end) bar
+
+abbrev μ-loop : tie.MeasureT-loop
+μ-loop neighbour summary container place header start end next bar₀ bar = 20 - bar
 
 abbrev Inv-objects : tie.InvT-objects
 Inv-objects neighbour summary container cursor₀ place₀ cursor place = Pass neighbour summary container cursor place
@@ -12,94 +21,92 @@ Inv-objects neighbour summary container cursor₀ place₀ cursor place = Pass n
 abbrev μ-objects : tie.MeasureT-objects
 μ-objects neighbour summary container cursor₀ place₀ cursor place = left container cursor
 
-first-requires : tie.Need-first-requires Inv-objects μ-objects
+first-requires : tie.Need-first-requires Inv-loop μ-loop Inv-objects μ-objects
 first-requires c κs = search needs
 
-objects-holds : tie.Need-objects-holds Inv-objects μ-objects
+objects-holds : tie.Need-objects-holds Inv-loop μ-loop Inv-objects μ-objects
 objects-holds c = pass-first _ _ _ _ (c .first .ensures)
 
-next-requires : tie.Need-next-requires Inv-objects μ-objects
+next-requires : tie.Need-next-requires Inv-loop μ-loop Inv-objects μ-objects
 next-requires c κs = search needs
 
-enum-known-header : tie.Need-enum-known-header Inv-objects μ-objects
+enum-known-header : tie.Need-enum-known-header Inv-loop μ-loop Inv-objects μ-objects
 enum-known-header c = search needs
 
-sub-constraint-bar : tie.Need-sub-constraint-bar Inv-objects μ-objects
-sub-constraint-bar c =
-    let at-step = c .before .before .before in
-    step-inside _ _ (sym (at-step .next .ensures) ∙ c .before .header .given .1) .0
+loop-holds : tie.Need-loop-holds Inv-loop μ-loop Inv-objects μ-objects
+loop-holds c = none
 
-part-constraint-bar-start : tie.Need-part-constraint-bar-start Inv-objects μ-objects
-part-constraint-bar-start c =
-    let at-step = c .before .before .before in
-    let f = step-inside _ _ (sym (at-step .next .ensures) ∙ c .before .header .given .1) in
+sub-holds : tie.Need-sub-holds Inv-loop μ-loop Inv-objects μ-objects
+sub-holds c = step-inside _ _ (sym (c .before .before .before .before .before .next .ensures) ∙ c .before .before .before .header .given .1) .0
+
+part-holds-start : tie.Need-part-holds-start Inv-loop μ-loop Inv-objects μ-objects
+part-holds-start c =
+    let f = step-inside _ _ (sym (c .before .before .before .before .before .next .ensures) ∙ c .before .before .before .header .given .1) in
     omega arith
 
-part-constraint-bar-end : tie.Need-part-constraint-bar-end Inv-objects μ-objects
-part-constraint-bar-end c =
-    let at-step = c .before .before .before in
-    step-inside _ _ (sym (at-step .next .ensures) ∙ c .before .header .given .1) .1 .0
+part-holds-end : tie.Need-part-holds-end Inv-loop μ-loop Inv-objects μ-objects
+part-holds-end c = step-inside _ _ (sym (c .before .before .before .before .before .next .ensures) ∙ c .before .before .before .header .given .1) .1 .0
 
-constraint-bar-requires : tie.Need-constraint-bar-requires Inv-objects μ-objects
-constraint-bar-requires c κs =
-    let at-step = c .before .before .before .before in
-    pass-tabled _ _ _ _ _ (at-step .before .objects .inv) (sym (at-step .next .ensures) ∙ c .before .before .header .given .1) (at-step .before .before .before .before .pre)
+holds-requires : tie.Need-holds-requires Inv-loop μ-loop Inv-objects μ-objects
+holds-requires c κs = pass-tabled _ _ _ _ _ (c .before .before .before .before .before .before .before .objects .inv) (sym (c .before .before .before .before .before .before .next .ensures) ∙ c .before .before .before .before .header .given .1) (c .before .before .before .before .before .before .before .before .before .before .pre)
 
-add-place : tie.Need-add-place Inv-objects μ-objects
+add-bar : tie.Need-add-bar Inv-loop μ-loop Inv-objects μ-objects
+add-bar c = omega arith
+
+loop-less : tie.Need-loop-less Inv-loop μ-loop Inv-objects μ-objects
+loop-less c = omega arith
+
+loop-again : tie.Need-loop-again Inv-loop μ-loop Inv-objects μ-objects
+loop-again c = tested-next _ _ _ _ (c .before .before .before .before .loop .inv) (c .before .before .before .loop-test .taken) (sym (c .before .holds .ensures) ∙ c .if1 .left)
+
+add-place : tie.Need-add-place Inv-loop μ-loop Inv-objects μ-objects
 add-place c =
-    let match = c .before .before .before .before in
-    let at-step = match .before .before in
-    let start = at-step .before .before .before in
-    let fits = pass-place _ _ _ _ _ (at-step .before .objects .inv) (sym (at-step .next .ensures) ∙ match .header .given .1) (start .before .pre) (omega (arith, start .shared-slice-known .given 1)) in
+    let fits = pass-place _ _ _ _ _ (c .before .before .before .before .before .before .objects .inv) (sym (c .before .before .before .before .before .next .ensures) ∙ c .before .before .before .header .given .1) (c .before .before .before .before .before .before .before .before .before .pre) (omega (arith, c .before .before .before .before .before .before .before .before .shared-slice-known .given 1)) in
     omega arith
 
-objects-less : tie.Need-objects-less Inv-objects μ-objects
-objects-less c =
-    let match = c .before .before .before .before in
-    step-inside _ _ (sym (match .before .before .next .ensures) ∙ match .header .given .1) .1 .1
+objects-less : tie.Need-objects-less Inv-loop μ-loop Inv-objects μ-objects
+objects-less c = step-inside _ _ (sym (c .before .before .before .before .before .next .ensures) ∙ c .before .before .before .header .given .1) .1 .1
 
-objects-again : tie.Need-objects-again Inv-objects μ-objects
-objects-again c =
-    let match = c .before .before .before .before in
-    let at-step = match .before .before in
-    pass-found _ _ _ _ _ (at-step .before .objects .inv) (sym (at-step .next .ensures) ∙ match .header .given .1) (sym (c .before .constraint-bar .ensures) ∙ c .if1 .left)
+objects-again : tie.Need-objects-again Inv-loop μ-loop Inv-objects μ-objects
+objects-again c = pass-found _ _ _ _ _ (c .before .before .before .before .before .before .objects .inv) (sym (c .before .before .before .before .before .next .ensures) ∙ c .before .before .before .header .given .1) (tested-clear _ _ _ _ (c .before .loop .inv) (c .loop-test .left))
 
-enum-told : tie.Need-enum-told Inv-objects μ-objects
+enum-told : tie.Need-enum-told Inv-loop μ-loop Inv-objects μ-objects
 enum-told c = search needs
 
-enum-told-2 : tie.Need-enum-told-2 Inv-objects μ-objects
+enum-told-2 : tie.Need-enum-told-2 Inv-loop μ-loop Inv-objects μ-objects
 enum-told-2 c = search needs
 
-returns : tie.Need-returns Inv-objects μ-objects
+returns : tie.Need-returns Inv-loop μ-loop Inv-objects μ-objects
 returns c = λ os f.
-    let match = c .before .before .before .before in
-    let at-step = match .before .before in
-    pass-barred _ _ _ _ _ (at-step .before .objects .inv) (sym (at-step .next .ensures) ∙ match .header .given .1) _ (c .before .constraint-bar .ensures) (c .if1 .taken) os f
+    pass-barred _ _ _ _ _ (c .before .before .before .before .before .before .before .before .before .objects .inv) (sym (c .before .before .before .before .before .before .before .before .next .ensures) ∙ c .before .before .before .before .before .before .header .given .1) _ (tested-bars _ _ _ _ (c .before .before .before .before .loop .inv) (c .before .before .before .loop-test .taken) (sym (c .before .holds .ensures) ∙ c .if1 .taken))
+    (tested-number _ _ _ _ (c .before .before .before .before .loop .inv) .0) os f
 
-returns-2 : tie.Need-returns-2 Inv-objects μ-objects
-returns-2 c = λ os f.
-    let at-step = c .before .before in
-    pass-whole _ _ _ _ _ (at-step .before .objects .inv) os f (sym (at-step .next .ensures) ∙ c .enum-told .given .1)
+returns-2 : tie.Need-returns-2 Inv-loop μ-loop Inv-objects μ-objects
+returns-2 c = λ os f. pass-whole _ _ _ _ _ (c .before .before .before .objects .inv) os f (sym (c .before .before .next .ensures) ∙ c .enum-told .given .1)
 
-returns-3 : tie.Need-returns-3 Inv-objects μ-objects
-returns-3 c = λ os f.
-    let at-step = c .before .before in
-    pass-clear _ _ _ _ _ (at-step .before .objects .inv) os f (sym (at-step .next .ensures) ∙ c .enum-told2 .given .1)
+returns-3 : tie.Need-returns-3 Inv-loop μ-loop Inv-objects μ-objects
+returns-3 c = λ os f. pass-clear _ _ _ _ _ (c .before .before .before .objects .inv) os f (sym (c .before .before .next .ensures) ∙ c .enum-told2 .given .1)
 
 pub first-barring-spec : {M : Type 1} → statement M
 first-barring-spec =
     tie.close
     (tie.spec
+    Inv-loop
+    μ-loop
     Inv-objects
     μ-objects
     first-requires
     objects-holds
     next-requires
     enum-known-header
-    sub-constraint-bar
-    part-constraint-bar-start
-    part-constraint-bar-end
-    constraint-bar-requires
+    loop-holds
+    sub-holds
+    part-holds-start
+    part-holds-end
+    holds-requires
+    add-bar
+    loop-less
+    loop-again
     add-place
     objects-less
     objects-again
