@@ -37,7 +37,7 @@ among-tabled ps (e ∷ es) o rest z k = among-tabled (ps ++ (e ∷ [])) es o res
 -- ---- the bytes of a constraint's or an aggregated metric's body
 
 -- a body that is as tabled has the base bytes of its type, and no others where the type has no TLVs
-base-of : (r : Row) (b : List ℕ) → fixedShape r b ≡ true → r .base ≤ length b
+pub base-of : (r : Row) (b : List ℕ) → fixedShape r b ≡ true → r .base ≤ length b
 base-of r b e = go (r .tlvs) e
   where
     go : (t : Bool) → cond t (leb (r .base) (length b) && tlvsFit (drop (r .base) b)) (eqb (length b) (r .base)) ≡ true → r .base ≤ length b
@@ -47,7 +47,7 @@ base-of r b e = go (r .tlvs) e
 pub fixed-base : (t n : ℕ) (b : List ℕ) → t ≡ n → fixedShape (row (kindOf t)) b ≡ true → row (kindOf n) .base ≤ length b
 fixed-base t n b e h = rw (← e) (base-of (row (kindOf t)) b h)
 
-whole-of : (r : Row) (b : List ℕ) → r .tlvs ≡ false → fixedShape r b ≡ true → length b ≡ r .base
+pub whole-of : (r : Row) (b : List ℕ) → r .tlvs ≡ false → fixedShape r b ≡ true → length b ≡ r .base
 whole-of r b f e = eqb-true (length b) (r .base) (rw f at e)
 
 pub fixed-whole : (t n : ℕ) (b : List ℕ) → t ≡ n → row (kindOf n) .tlvs ≡ false → fixedShape (row (kindOf t)) b ≡ true → length b ≡ row (kindOf n) .base

@@ -4,7 +4,8 @@ use lib.Dec.{eqb}
 use mathlib.Core.Bool.{Bool, cond, not, _&&_, _||_}
 use Prim.Native.Nat.{_/_, ℕ, _+_, _≤_, _<_, min, max}
 use mathlib.Core.List.{List, map}
-use lib.ListN.{length, getD}
+use mathlib.Core.Option.{some}
+use lib.ListN.{length, getD, getElem?}
 use Rattle.model.specs.declared.Quantity.the-variants.{Known}
 use Rattle.model.specs.declared.Own.{Own}
 use Rattle.model.specs.declared.Neighbour.{Neighbour}
@@ -64,6 +65,15 @@ NoSumWraps = (own : Own) (c : Neighbour) (o : Object) (s : Scalar) (v : ℕ) →
 abbrev pub CountsHop : Type 0
 CountsHop = (own : Own) (c : Neighbour) (o : Object) → kind o ≡ node hp → role o ≡ aggregated → fieldA o ≡ 0 → 2 ≤ length (o .body)
     → Sum 255 (getD (o .body) 1 0) 1 (getD (updateObject own c o .body) 1 0)
+
+-- in a well-formed container an aggregated scalar has its width, and an HP metric two bytes or more, as these two statements ask
+pub record Whole (o : Object) : Type 0 where
+  pub scalars : (s : Scalar) → kind o ≡ scalar s → length (o .body) ≡ widthOf s
+  pub hops : kind o ≡ node hp → 2 ≤ length (o .body)
+
+-- of every aggregated metric
+abbrev pub AggregatesWhole : Type 0
+AggregatesWhole = (bs : List ℕ) (os : List Object) (i : ℕ) (o : Object) → reading bs ≡ wellFormed os → getElem? os i ≡ some o → role o ≡ aggregated → Whole o
 
 -- of bytes and of numbers within their types, bytes are passed on
 abbrev pub PassesBytes : Type 0
