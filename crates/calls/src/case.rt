@@ -120,7 +120,7 @@ fn read_candidates(text: &[u8], from: usize, count: usize) -> Candidates
 }
 
 // The case of a line, from the index behind its name on. Where a number is missing, the count is 0 and so is the index behind.
-pub fn read(line: &[u8], from: usize) -> Case
+pub(crate) fn read(line: &[u8], from: usize) -> Case
     requires { ⌜ from ≤ length (now line) ⌝ }
     ensures { λ r. ⌜ (r .room ≤ 300) × (r .next ≤ length (now (line .entry))) ⌝ }
 {

@@ -13,7 +13,7 @@ pub struct Number {
 }
 
 // The index of a byte in a text from an index on, or the text's length.
-pub fn find(text: &[u8], from: usize, byte: u8) -> usize
+pub(crate) fn find(text: &[u8], from: usize, byte: u8) -> usize
     requires { ⌜ from ≤ length (now text) ⌝ }
     ensures { λ r. ⌜ (from ≤ r) × (r ≤ length (now (text .entry))) ⌝ }
 {
@@ -85,7 +85,7 @@ fn decimal(text: &[u8], from: usize) -> Number
 }
 
 // Reads a number for each limit, and none above its limit; answers the index behind the last, or 0.
-pub fn numbers(text: &[u8], from: usize, limits: &[u64], out: &mut [u64]) -> usize
+pub(crate) fn numbers(text: &[u8], from: usize, limits: &[u64], out: &mut [u64]) -> usize
     requires { ⌜ from ≤ length (now text) ⌝ }
     requires { ⌜ length (now limits) ≡ length (now out) ⌝ }
     ensures { λ r. ⌜ r ≤ length (now (text .entry)) ⌝ }

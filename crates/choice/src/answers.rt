@@ -30,7 +30,7 @@ pub fn place_of(v: Verdict) -> u16
 }
 
 // The bit of the candidate at a position, in its place.
-pub fn bit_at(v: Verdict, position: usize) -> u16
+pub(crate) fn bit_at(v: Verdict, position: usize) -> u16
     requires { ⌜ position < 16 ⌝ }
     ensures { λ r. ⌜ r ≡ unbarredBit v * 2 ^ position ⌝ }
 {

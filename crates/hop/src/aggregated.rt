@@ -59,7 +59,7 @@ fn put_field_2(out: &mut [u8], at: usize, a: u8, v: u32, body: &[u8]) -> usize
 }
 
 // Puts the body of an aggregated metric, combined with the local value.
-pub fn put_aggregated(
+pub(crate) fn put_aggregated(
     out: &mut [u8],
     at: usize,
     own: Own,

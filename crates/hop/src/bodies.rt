@@ -31,7 +31,7 @@ fn put_constraint(out: &mut [u8], at: usize, mctype: u8, body: &[u8]) -> usize
 }
 
 // Puts the body of an object.
-pub fn put_body(
+pub(crate) fn put_body(
     out: &mut [u8],
     at: usize,
     own: Own,

@@ -6,7 +6,7 @@ ghost use Rattle.model.specs.Number.{bigEndian};
 ghost use Rattle.wire.specs.Put.{Put};
 
 // Puts a run of bytes.
-pub fn put_bytes(out: &mut [u8], at: usize, bytes: &[u8]) -> usize
+pub(crate) fn put_bytes(out: &mut [u8], at: usize, bytes: &[u8]) -> usize
     requires { ⌜ at + length (now bytes) ≤ length (now out) ⌝ }
     ensures { λ r. ⌜ Put (now (out .entry)) at (now (bytes .entry)) r (now (out .exit)) ⌝ }
 {
@@ -20,7 +20,7 @@ pub fn put_bytes(out: &mut [u8], at: usize, bytes: &[u8]) -> usize
 }
 
 // Puts a body whose first two bytes are changed.
-pub fn put_two(out: &mut [u8], at: usize, first: u8, second: u8, body: &[u8]) -> usize
+pub(crate) fn put_two(out: &mut [u8], at: usize, first: u8, second: u8, body: &[u8]) -> usize
     requires { ⌜ (2 ≤ length (now body)) × (at + length (now body) ≤ length (now out)) ⌝ }
     ensures { λ r. ⌜ Put (now (out .entry)) at (first ∷ second ∷ drop 2 (now (body .entry))) r (now (out .exit)) ⌝ }
 {
@@ -30,7 +30,7 @@ pub fn put_two(out: &mut [u8], at: usize, first: u8, second: u8, body: &[u8]) ->
 }
 
 // Puts a number of four bytes.
-pub fn put_4(out: &mut [u8], at: usize, n: u32) -> usize
+pub(crate) fn put_4(out: &mut [u8], at: usize, n: u32) -> usize
     requires { ⌜ at + 4 ≤ length (now out) ⌝ }
     ensures { λ r. ⌜ Put (now (out .entry)) at (bigEndian 4 n) r (now (out .exit)) ⌝ }
 {
@@ -42,7 +42,7 @@ pub fn put_4(out: &mut [u8], at: usize, n: u32) -> usize
 }
 
 // Puts a number in two bytes.
-pub fn put_2(out: &mut [u8], at: usize, n: u32) -> usize
+pub(crate) fn put_2(out: &mut [u8], at: usize, n: u32) -> usize
     requires { ⌜ at + 2 ≤ length (now out) ⌝ }
     ensures { λ r. ⌜ Put (now (out .entry)) at (bigEndian 2 n) r (now (out .exit)) ⌝ }
 {

@@ -6,7 +6,7 @@ ghost use Rattle.wire.specs.Put.{Put};
 use crate::bytes;
 
 // Puts sub-objects with the hop's level counted.
-pub fn put_levels(out: &mut [u8], at: usize, level: u8, subs: &[u8]) -> usize
+pub(crate) fn put_levels(out: &mut [u8], at: usize, level: u8, subs: &[u8]) -> usize
     requires { ⌜ level ≤ 7 ⌝ }
     requires { ⌜ at + length (countLevel level (now subs)) ≤ length (now out) ⌝ }
     ensures { λ r. ⌜ Put (now (out .entry)) at (countLevel level (now (subs .entry))) r (now (out .exit)) ⌝ }

@@ -60,7 +60,7 @@ fn conclude(p: Planned) -> Sent
 }
 
 // The answer for a container, in one pass over its objects.
-pub fn plan(own: Own, neighbour: Neighbour, container: &[u8]) -> Sent
+pub(crate) fn plan(own: Own, neighbour: Neighbour, container: &[u8]) -> Sent
     requires { ⌜ length (now container) ≤ 257 ⌝ }
     ensures { λ r. ⌜ r ≡ sentOf (sendsObjects own neighbour (dataObjects (now (container .entry)))) ⌝ }
 {

@@ -83,7 +83,7 @@ fn put_counted(out: &mut [u8], at: usize, level: u8, body: &[u8]) -> usize
 }
 
 // Puts the body of a recorded metric: the local value behind the last sub-object, for throughput before the first.
-pub fn put_recorded(
+pub(crate) fn put_recorded(
     out: &mut [u8],
     at: usize,
     own: Own,

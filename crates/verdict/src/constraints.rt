@@ -113,7 +113,13 @@ fn is_met(neighbour: Neighbour, summary: Summary, mctype: u8, body: &[u8]) -> bo
 }
 
 // Whether bar 18, or 19 by any other number, holds of an object. Most objects are no mandatory constraints.
-pub fn holds(bar: u8, neighbour: Neighbour, summary: Summary, header: Header, body: &[u8]) -> bool
+pub(crate) fn holds(
+    bar: u8,
+    neighbour: Neighbour,
+    summary: Summary,
+    header: Header,
+    body: &[u8],
+) -> bool
     requires { ⌜ Tabled (objectOf header (now body)) ⌝ }
     ensures { λ r. ⌜ r ≡ barHolds bar neighbour summary (objectOf header (now (body .entry))) ⌝ }
 {
