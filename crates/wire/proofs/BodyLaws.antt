@@ -3,12 +3,12 @@ use mathlib.Core.Path.{_≡_, refl, sym, subst}
 use Prim.Native.Nat.{ℕ, _+_, _-_, _%_, _≤_, _<_}
 use native.Mathlib.Nat.{mod-zero, mod-one}
 use native.Mathlib.Omega.{arith}
-use mathlib.Core.Bool.{Bool·beq, true, false, _||_, not, false≢true, true≢false}
-use mathlib.Core.List.{List}
-use lib.ListN.{length, take, drop, length-drop}
+use mathlib.Core.Bool.{Bool, Bool·beq, true, false, cond, _&&_, _||_, not, false≢true, true≢false}
+use mathlib.Core.List.{List, []}
+use lib.ListN.{length, take, drop, length-drop, drop-of-length-le}
 use lib.Seq.{take-all}
-use lib.Dec.{eqb}
-use borrow.Author.Tests.{le-leb, lt-leb}
+use lib.Dec.{leb, eqb}
+use borrow.Author.Tests.{le-leb, lt-leb, eq-eqb, ne-eqb}
 use Rattle.model.specs.Object.{Kind, unknown, lql, node, scalar, nsa, ne, hp, throughput, latency, etx, kindOf, Role, constraint, recorded, aggregated, roleOf, isConstraint, isRecorded}
 use Rattle.model.specs.Table.{row}
 use Rattle.model.specs.Reading.{tlvsFit, fixedShape, recordedShape, shaped, cannotBe, isEmpty}
@@ -16,6 +16,7 @@ use Rattle.model.proofs.TypeLaws.{beq-true, every-kind}
 use Rattle.wire.specs.declared.objects.Header.{Header}
 use Rattle.wire.specs.declared.table.Row.{Row}
 use Rattle.wire.specs.Row.{rowIn, rowFor}
+use Rattle.wire.proofs.TlvLaws.{tlvs-few}
 
 -- what holds of the row of a type's kind holds of the row that code reads
 by-kind : (P : Row → Kind → Type 0) → ((k : Kind) → P (rowIn k) k) → (w : Row) (t : ℕ) → w ≡ rowFor t → P w (kindOf t)
@@ -33,11 +34,28 @@ fixed-tlvs w t b e = by-kind (λ w k. w .tlvs ≡ true → w .base ≤ length b 
         let r : length (drop (row k .base) b) ≤ length b - row k .base = rw length-drop (omega arith) in
         rw (h, le-leb (row k .base) (length b) l, take-all (length b - row k .base) (drop (row k .base) b) r)
 
-pub fixed-short : (w : Row) (t : ℕ) (b : List ℕ) → w ≡ rowFor t → w .tlvs ≡ true → length b < w .base → false ≡ fixedShape (row (kindOf t)) b
-fixed-short w t b e = by-kind (λ w k. w .tlvs ≡ true → length b < w .base → false ≡ fixedShape (row k) b) (λ k h l. rw (h, lt-leb (row k .base) (length b) l)) w t e
+pub fixed-base : (w : Row) (t : ℕ) (b : List ℕ) → w ≡ rowFor t → length b ≡ w .base → true ≡ fixedShape (row (kindOf t)) b
+fixed-base w t b e = by-kind (λ w k. length b ≡ w .base → true ≡ fixedShape (row k) b) at-kind w t e
+  where
+    none-left : tlvsFit (drop (length b) b) ≡ true
+    none-left = rw (drop-of-length-le b {i = length b} (omega arith)) (tlvs-few [] (omega arith))
 
-pub fixed-plain : (w : Row) (t : ℕ) (b : List ℕ) → w ≡ rowFor t → w .tlvs ≡ false → eqb (length b) (w .base) ≡ fixedShape (row (kindOf t)) b
-fixed-plain w t b e = by-kind (λ w k. w .tlvs ≡ false → eqb (length b) (w .base) ≡ fixedShape (row k) b) (λ k h. rw h) w t e
+    at-kind : (k : Kind) → length b ≡ row k .base → true ≡ fixedShape (row k) b
+    at-kind k l = rw (← l) (go (row k .tlvs))
+      where
+        go : (x : Bool) → true ≡ cond x (leb (length b) (length b) && tlvsFit (drop (length b) b)) (eqb (length b) (length b))
+        go true = rw (le-leb (length b) (length b) (omega arith), none-left)
+        go false = sym (eq-eqb (length b) (length b) refl)
+
+pub fixed-short : (w : Row) (t : ℕ) (b : List ℕ) → w ≡ rowFor t → length b < w .base → false ≡ fixedShape (row (kindOf t)) b
+fixed-short w t b e = by-kind (λ w k. length b < w .base → false ≡ fixedShape (row k) b) (λ k l. go (row k .tlvs) (row k .base) l) w t e
+  where
+    go : (x : Bool) (n : ℕ) → length b < n → false ≡ cond x (leb n (length b) && tlvsFit (drop n b)) (eqb (length b) n)
+    go true n l = rw (lt-leb n (length b) l)
+    go false n l = sym (ne-eqb (length b) n (λ q. omega arith))
+
+pub fixed-other : (w : Row) (t : ℕ) (b : List ℕ) → w ≡ rowFor t → (length b ≡ w .base → ⊥) → w .tlvs ≡ false → false ≡ fixedShape (row (kindOf t)) b
+fixed-other w t b e = by-kind (λ w k. (length b ≡ w .base → ⊥) → w .tlvs ≡ false → false ≡ fixedShape (row k) b) (λ k l h. rw h (sym (ne-eqb (length b) (row k .base) l))) w t e
 
 -- ---- a recorded metric
 

@@ -1,39 +1,79 @@
 -- The TLV walk as code takes it: by length, byte 1 and the rest.
-use mathlib.Core.Path.{_≡_, refl}
-use Prim.Native.Nat.{ℕ, suc, _+_, _-_, _≤_, _<_}
+use mathlib.Core.Path.{_≡_, refl, sym, ap, _∙_}
+use Prim.Native.Nat.{ℕ, suc, _+_, _-_, _*_, _≤_, _<_}
 use native.Mathlib.Omega.{arith}
-use mathlib.Core.Bool.{true, false}
 use mathlib.Core.List.{List, [], _∷_}
 use lib.ListN.{length, take, drop, getD, length-drop}
-use lib.Seq.{take-all}
-use borrow.Author.Tests.{le-leb, lt-leb}
+use lib.Seq.{take-all, getD-drop, drop-drop}
+use lib.Dec.{eqb}
+use borrow.Author.Tests.{le-leb, lt-leb, ne-eqb}
 use Rattle.model.specs.Reading.{tlvsUpTo, tlvsFit}
 use Rattle.model.proofs.TlvLaws.{tlvs-step}
+use Rattle.wire.specs.Tlv.{StepsOver}
 
--- no bytes are no TLVs
-pub tlvs-empty : (s : List ℕ) → length s ≡ 0 → true ≡ tlvsFit s
+-- no bytes are no TLVs, and a lone byte is none
+pub tlvs-few : (s : List ℕ) → length s < 2 → tlvsFit s ≡ eqb (length s) 0
 unfolding tlvsFit tlvsUpTo
-tlvs-empty [] h = refl
-tlvs-empty (t ∷ s) h = absurd (omega arith)
-
--- a lone byte is no TLV
-pub tlvs-lone : (s : List ℕ) → (length s ≡ 0 → ⊥) → length s < 2 → false ≡ tlvsFit s
-unfolding tlvsFit tlvsUpTo
-tlvs-lone [] h l = absurd (h refl)
-tlvs-lone (t ∷ []) h l = refl
-tlvs-lone (t ∷ n ∷ s) h l = absurd (omega arith)
+tlvs-few [] l = refl
+tlvs-few (t ∷ []) l = refl
+tlvs-few (t ∷ n ∷ s) l = absurd (omega arith)
 
 -- a value that overruns the bytes
-pub tlvs-over : (s : List ℕ) → 2 ≤ length s → length s - 2 < getD s 1 0 → false ≡ tlvsFit s
+pub tlvs-over : (s : List ℕ) → 2 ≤ length s → length s - 2 < getD s 1 0 → tlvsFit s ≡ eqb (length s) 0
 tlvs-over [] h l = absurd (omega arith)
 tlvs-over (t ∷ []) h l = absurd (omega arith)
-tlvs-over (t ∷ n ∷ s) h l = rw (tlvs-step t n s, lt-leb n (length s) (omega arith))
+tlvs-over (t ∷ n ∷ s) h l = rw (tlvs-step t n s, lt-leb n (length s) (omega arith)) (sym (ne-eqb (length (t ∷ n ∷ s)) 0 (λ e. omega arith)))
 
--- behind a value that fits, the rest as a part of a slice
-pub tlvs-rest : (s : List ℕ) → 2 ≤ length s → getD s 1 0 ≤ length s - 2 → tlvsFit (take (length s - (getD s 1 0 + 2)) (drop (getD s 1 0 + 2) s)) ≡ tlvsFit s
-tlvs-rest [] h l = absurd (omega arith)
-tlvs-rest (t ∷ []) h l = absurd (omega arith)
-tlvs-rest (t ∷ n ∷ s) h l =
+-- behind a value that fits
+pub tlvs-behind : (s : List ℕ) → 2 ≤ length s → getD s 1 0 ≤ length s - 2 → tlvsFit (drop (getD s 1 0 + 2) s) ≡ tlvsFit s
+tlvs-behind [] h l = absurd (omega arith)
+tlvs-behind (t ∷ []) h l = absurd (omega arith)
+tlvs-behind (t ∷ n ∷ s) h l =
     let e : n + 2 ≡ suc (suc n) = omega arith in
-    let k : length (drop n s) ≤ suc (suc (length s)) - (n + 2) = rw length-drop (omega arith) in
-    rw (tlvs-step t n s, le-leb n (length s) (omega arith), take-all (suc (suc (length s)) - (n + 2)) (drop (n + 2) (t ∷ n ∷ s)) (rw e (rw e at k)), e)
+    rw (tlvs-step t n s, le-leb n (length s) (omega arith), e)
+
+-- ---- steps over TLVs
+
+-- so far: the bytes left behind the index, and two bytes or more for each turn taken of eight
+pub record Stepping (s : List ℕ) (at left turns : ℕ) : Type 0 where
+  pub all : at + left ≡ length s
+  pub rest : tlvsFit (drop at s) ≡ tlvsFit s
+  pub many : 16 ≤ at + 2 * turns
+
+pub stepping-first : (s : List ℕ) → Stepping s 0 (length s) 8
+stepping-first s = record { all = omega arith; rest = refl; many = omega arith }
+
+module _ (s : List ℕ) (at left turns : ℕ) (w : Stepping s at left turns) where
+  left-drop : length (drop at s) ≡ left
+  left-drop = rw length-drop (omega (arith, w .all))
+
+  at-byte : getD (drop at s) 1 0 ≡ getD s (at + 1) 0
+  at-byte = getD-drop at s 1 0
+
+  -- one TLV more
+  pub stepping-more : 0 < turns → 2 ≤ left → getD s (at + 1) 0 ≤ left - 2
+      → Stepping s (at + (getD s (at + 1) 0 + 2)) (left - 2 - getD s (at + 1) 0) (turns - 1)
+  stepping-more h l f =
+      let n = getD s (at + 1) 0 in
+      let d : tlvsFit (drop (n + 2) (drop at s)) ≡ tlvsFit (drop at s) = rw (← at-byte) (tlvs-behind (drop at s) (rw left-drop l) (rw (left-drop, at-byte) f)) in
+      record { all = omega (arith, w .all); rest = rw (← drop-drop (n + 2) at s) (d ∙ w .rest); many = omega (arith, w .many) }
+
+  stop : (at ≡ 0 → tlvsFit s ≡ eqb (length s) 0) → StepsOver s at
+  stop f = record { inside = omega (arith, w .all); rest = w .rest; start = f }
+
+  -- no TLV more, or a lone byte
+  pub stepping-few : left < 2 → StepsOver s at
+  stepping-few l = stop (λ z. tlvs-few s (omega (arith, w .all)))
+
+  -- a TLV that overruns
+  pub stepping-over : 2 ≤ left → left - 2 < getD s (at + 1) 0 → StepsOver s at
+  stepping-over h l =
+      stop (λ z. let e : getD s (at + 1) 0 ≡ getD s 1 0 = ap (λ k. getD s k 0) (omega arith) in tlvs-over s (omega (arith, w .all)) (rw (← e) (omega (arith, w .all))))
+
+  -- eight TLVs
+  pub stepping-end : turns ≤ 0 → StepsOver s at
+  stepping-end l = stop (λ z. absurd (omega (arith, w .many)))
+
+-- the rest as a part of a slice
+pub steps-rest : (s : List ℕ) (at : ℕ) → StepsOver s at → tlvsFit (take (length s - at) (drop at s)) ≡ tlvsFit s
+steps-rest s at w = let r : length (drop at s) ≤ length s - at = rw length-drop (omega arith) in rw (take-all (length s - at) (drop at s) r) (w .rest)

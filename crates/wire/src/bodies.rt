@@ -3,40 +3,60 @@ ghost use mathlib.Core.Path.{_≡_};
 ghost use Rattle.model.specs.Object.{kindOf};
 ghost use Rattle.model.specs.Table.{row};
 ghost use Rattle.model.specs.Reading.{tlvsFit, fixedShape, recordedShape};
+ghost use Rattle.wire.specs.Tlv.{StepsOver};
 use crate::table;
 
-// Whether TLVs fill the bytes. It calls itself on the bytes behind a TLV, which are fewer by two or more.
+// Steps over eight TLVs at most, none of which overruns; answers the index behind them.
+fn behind_tlvs(tlvs: &[u8]) -> usize
+    ensures { λ r. ⌜ StepsOver (now (tlvs .entry)) r ⌝ }
+{
+    let mut at: usize = 0;
+    let mut left = tlvs.len();
+    let mut turns: u8 = 8;
+    while 0 < turns {
+        if left < 2 {
+            return at;
+        }
+        let size = tlvs[at + 1] as usize;
+        let behind = left - 2;
+        if behind < size {
+            return at;
+        }
+        left = behind - size;
+        at += size + 2;
+        turns -= 1;
+    }
+    at
+}
+
+// Whether TLVs fill the bytes. It calls itself on the bytes behind some TLVs, which are fewer by two or more; eight to a call keep
+// the stack small.
 fn tlvs_fit(tlvs: &[u8]) -> bool
     ensures { λ r. ⌜ r ≡ tlvsFit (now (tlvs .entry)) ⌝ }
 {
-    let n = tlvs.len();
-    if n == 0 {
-        return true;
+    let at = behind_tlvs(tlvs);
+    if at == 0 {
+        return tlvs.len() == 0;
     }
-    if n < 2 {
-        return false;
-    }
-    let size = tlvs[1] as usize;
-    if n - 2 < size {
-        return false;
-    }
-    let from = size + 2;
-    tlvs_fit(&tlvs[from..])
+    tlvs_fit(&tlvs[at..])
 }
 
-// The body of a constraint or an aggregated metric: the base bytes, and TLVs behind them where the type has them.
+// The body of a constraint or an aggregated metric: the base bytes, and TLVs behind them where the type has them. Most have none.
 pub fn is_fixed(mctype: u8, body: &[u8]) -> bool
     ensures { λ r. ⌜ r ≡ fixedShape (row (kindOf mctype)) (now (body .entry)) ⌝ }
 {
     let row = table::row_of(mctype);
     let base = row.base as usize;
-    if row.tlvs {
-        if base <= body.len() {
-            return tlvs_fit(&body[base..]);
-        }
+    if body.len() == base {
+        return true;
+    }
+    if body.len() < base {
         return false;
     }
-    body.len() == base
+    if row.tlvs {
+        return tlvs_fit(&body[base..]);
+    }
+    false
 }
 
 // The body of a recorded metric: the lead bytes, and one sub-object or more. Each size of the table has its own divisor; the

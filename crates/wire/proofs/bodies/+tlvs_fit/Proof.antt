@@ -1,14 +1,16 @@
-use Rattle.wire.proofs.TlvLaws.{tlvs-empty, tlvs-lone, tlvs-over, tlvs-rest}
-use mathlib.Core.Path.{_∙_}
+-- `tlvs_fit` meets its contract, by the bytes behind some TLVs.
+use mathlib.Core.Path.{sym, _∙_}
 use native.Mathlib.Omega.{arith}
 use borrow.Author.Needs.{needs}
 use lib.ListN.{length, length-take, length-drop}
+use Rattle.wire.proofs.TlvLaws.{steps-rest}
 use Prim.Native.Nat.{ℕ, _<_}
 use borrow.Fn.Kinds.{In}
 use borrow.Fn.PlainCycle.{Measures, is, falls, and}
 use Rattle.wire.proofs.bodies.tlvs_fit.Reads as tlvs-fit
 use Rattle.wire.proofs.bodies.tlvs_fit.Kinds as tlvs-fit-kinds
 use Rattle.wire.proofs.bodies.+tlvs_fit.Lts-tlvs_fit as tlvs-fit-lts
+use Rattle.wire.proofs.bodies.behind_tlvs.Reads as behind-tlvs-reads
 use Rattle.wire.proofs.bodies.+tlvs_fit.{statement}
 use Rattle.wire.proofs.bodies.+tlvs_fit.Tie.{close}
 
@@ -22,81 +24,75 @@ abbrev tlvs-fit-below : ℕ → In 1 tlvs-fit-kinds.ps
 tlvs-fit-below t =
     and 1 tlvs-fit-kinds.ps (falls 1 tlvs-fit-kinds.ps _<_ μ-tlvs-fit t) tlvs-fit.Pre
 
-tlvs-fit-returns :
-    (t : ℕ) →
-    tlvs-fit-lts.Need-returns (tlvs-fit-below t, tlvs-fit.Post) (tlvs-fit-at t) tlvs-fit.Post
-tlvs-fit-returns t c = tlvs-empty (c .before .before .args .tlvs .now) (c .if1 .taken)
-
-tlvs-fit-returns-2 :
-    (t : ℕ) →
-    tlvs-fit-lts.Need-returns-2 (tlvs-fit-below t, tlvs-fit.Post) (tlvs-fit-at t) tlvs-fit.Post
-tlvs-fit-returns-2 t c = tlvs-lone (c .before .before .before .args .tlvs .now) (c .before .if1 .left) (c .if2 .taken)
-
-tlvs-fit-shared-slice-read-size : (t : ℕ) → tlvs-fit-lts.Need-shared-slice-read-size (
+tlvs-fit-behind-tlvs-requires : (t : ℕ) → tlvs-fit-lts.Need-behind-tlvs-requires (
+  behind-tlvs-reads.Asked,
+  behind-tlvs-reads.Learnt,
   tlvs-fit-below t,
   tlvs-fit.Post,
 ) (tlvs-fit-at t) tlvs-fit.Post
-tlvs-fit-shared-slice-read-size t c = search needs
+tlvs-fit-behind-tlvs-requires t c κs = search needs
 
-tlvs-fit-cast-size :
-    (t : ℕ) →
-    tlvs-fit-lts.Need-cast-size (tlvs-fit-below t, tlvs-fit.Post) (tlvs-fit-at t) tlvs-fit.Post
-tlvs-fit-cast-size t c = omega (arith, c .shared-slice-known2 .given 1)
+tlvs-fit-returns : (t : ℕ) → tlvs-fit-lts.Need-returns (
+  behind-tlvs-reads.Asked,
+  behind-tlvs-reads.Learnt,
+  tlvs-fit-below t,
+  tlvs-fit.Post,
+) (tlvs-fit-at t) tlvs-fit.Post
+tlvs-fit-returns t c = sym (c .before .behind-tlvs .ensures .start (c .if1 .taken))
 
-tlvs-fit-returns-3 :
-    (t : ℕ) →
-    tlvs-fit-lts.Need-returns-3 (tlvs-fit-below t, tlvs-fit.Post) (tlvs-fit-at t) tlvs-fit.Post
-tlvs-fit-returns-3 t c = tlvs-over (c .before .before .before .before .before .args .tlvs .now) (c .before .before .if2 .left) (c .if3 .taken)
-
-tlvs-fit-add-from :
-    (t : ℕ) →
-    tlvs-fit-lts.Need-add-from (tlvs-fit-below t, tlvs-fit.Post) (tlvs-fit-at t) tlvs-fit.Post
-tlvs-fit-add-from t c = search needs
-
-tlvs-fit-sub-tlvs-fit :
-    (t : ℕ) →
-    tlvs-fit-lts.Need-sub-tlvs-fit (tlvs-fit-below t, tlvs-fit.Post) (tlvs-fit-at t) tlvs-fit.Post
-tlvs-fit-sub-tlvs-fit t c = search needs
+tlvs-fit-sub-tlvs-fit : (t : ℕ) → tlvs-fit-lts.Need-sub-tlvs-fit (
+  behind-tlvs-reads.Asked,
+  behind-tlvs-reads.Learnt,
+  tlvs-fit-below t,
+  tlvs-fit.Post,
+) (tlvs-fit-at t) tlvs-fit.Post
+tlvs-fit-sub-tlvs-fit t c = c .before .behind-tlvs .ensures .inside
 
 tlvs-fit-part-tlvs-fit-start : (t : ℕ) → tlvs-fit-lts.Need-part-tlvs-fit-start (
+  behind-tlvs-reads.Asked,
+  behind-tlvs-reads.Learnt,
   tlvs-fit-below t,
   tlvs-fit.Post,
 ) (tlvs-fit-at t) tlvs-fit.Post
-tlvs-fit-part-tlvs-fit-start t c = search needs
+tlvs-fit-part-tlvs-fit-start t c = c .before .behind-tlvs .ensures .inside
 
 tlvs-fit-part-tlvs-fit-end : (t : ℕ) → tlvs-fit-lts.Need-part-tlvs-fit-end (
+  behind-tlvs-reads.Asked,
+  behind-tlvs-reads.Learnt,
   tlvs-fit-below t,
   tlvs-fit.Post,
 ) (tlvs-fit-at t) tlvs-fit.Post
 tlvs-fit-part-tlvs-fit-end t c = search needs
 
 tlvs-fit-tlvs-fit-requires : (t : ℕ) → tlvs-fit-lts.Need-tlvs-fit-requires (
+  behind-tlvs-reads.Asked,
+  behind-tlvs-reads.Learnt,
   tlvs-fit-below t,
   tlvs-fit.Post,
 ) (tlvs-fit-at t) tlvs-fit.Post
-tlvs-fit-tlvs-fit-requires t c κs = (simp (length-take, length-drop) (omega (arith, c .before .before .before .before .before .before .pre .0)), tt)
+tlvs-fit-tlvs-fit-requires t c κs = (simp (length-take, length-drop) (omega (arith, c .before .before .behind-tlvs .ensures .inside, c .before .before .before .before .pre .0)), tt)
 
-tlvs-fit-returns-4 :
-    (t : ℕ) →
-    tlvs-fit-lts.Need-returns-4 (tlvs-fit-below t, tlvs-fit.Post) (tlvs-fit-at t) tlvs-fit.Post
-tlvs-fit-returns-4 t c = c .tlvs-fit .ensures ∙ tlvs-rest (c .before .before .before .before .before .before .before .args .tlvs .now) (c .before .before .before .before .if2 .left) (c .before .before .if3 .left)
+tlvs-fit-returns-2 : (t : ℕ) → tlvs-fit-lts.Need-returns-2 (
+  behind-tlvs-reads.Asked,
+  behind-tlvs-reads.Learnt,
+  tlvs-fit-below t,
+  tlvs-fit.Post,
+) (tlvs-fit-at t) tlvs-fit.Post
+tlvs-fit-returns-2 t c = c .tlvs-fit .ensures ∙ steps-rest _ _ (c .before .before .before .behind-tlvs .ensures)
 
 pub +tlvs-fit-spec : {M : Type 1} → statement M
-+tlvs-fit-spec =
-    close
-    μ-tlvs-fit
-    λ t. tlvs-fit-lts.spec
-    (tlvs-fit-below t, tlvs-fit.Post)
++tlvs-fit-spec = close μ-tlvs-fit λ t. tlvs-fit-lts.spec (
+  behind-tlvs-reads.Asked,
+  behind-tlvs-reads.Learnt,
+  tlvs-fit-below t,
+  tlvs-fit.Post,
+)
     (tlvs-fit-at t)
     tlvs-fit.Post
+    (tlvs-fit-behind-tlvs-requires t)
     (tlvs-fit-returns t)
-    (tlvs-fit-returns-2 t)
-    (tlvs-fit-shared-slice-read-size t)
-    (tlvs-fit-cast-size t)
-    (tlvs-fit-returns-3 t)
-    (tlvs-fit-add-from t)
     (tlvs-fit-sub-tlvs-fit t)
     (tlvs-fit-part-tlvs-fit-start t)
     (tlvs-fit-part-tlvs-fit-end t)
     (tlvs-fit-tlvs-fit-requires t)
-    (tlvs-fit-returns-4 t)
+    (tlvs-fit-returns-2 t)
