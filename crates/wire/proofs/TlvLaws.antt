@@ -1,6 +1,6 @@
 -- The TLV walk as code takes it: by length, byte 1 and the rest.
 use mathlib.Core.Path.{_≡_, refl, sym, ap, _∙_}
-use Prim.Native.Nat.{ℕ, suc, _+_, _-_, _*_, _≤_, _<_}
+use Prim.Native.Nat.{ℕ, suc, _+_, _-_, _≤_, _<_}
 use native.Mathlib.Omega.{arith}
 use mathlib.Core.List.{List, [], _∷_}
 use lib.ListN.{length, take, drop, getD, length-drop}
@@ -34,16 +34,15 @@ tlvs-behind (t ∷ n ∷ s) h l =
 
 -- ---- steps over TLVs
 
--- so far: the bytes left behind the index, and two bytes or more for each turn taken of eight
-pub record Stepping (s : List ℕ) (at left turns : ℕ) : Type 0 where
+-- so far: the bytes left behind the index
+pub record Stepping (s : List ℕ) (at left : ℕ) : Type 0 where
   pub all : at + left ≡ length s
   pub rest : tlvsFit (drop at s) ≡ tlvsFit s
-  pub many : 16 ≤ at + 2 * turns
 
-pub stepping-first : (s : List ℕ) → Stepping s 0 (length s) 8
-stepping-first s = record { all = omega arith; rest = refl; many = omega arith }
+pub stepping-first : (s : List ℕ) → Stepping s 0 (length s)
+stepping-first s = record { all = omega arith; rest = refl }
 
-module _ (s : List ℕ) (at left turns : ℕ) (w : Stepping s at left turns) where
+module _ (s : List ℕ) (at left : ℕ) (w : Stepping s at left) where
   left-drop : length (drop at s) ≡ left
   left-drop = rw length-drop (omega (arith, w .all))
 
@@ -51,28 +50,23 @@ module _ (s : List ℕ) (at left turns : ℕ) (w : Stepping s at left turns) whe
   at-byte = getD-drop at s 1 0
 
   -- one TLV more
-  pub stepping-more : 0 < turns → 2 ≤ left → getD s (at + 1) 0 ≤ left - 2
-      → Stepping s (at + (getD s (at + 1) 0 + 2)) (left - 2 - getD s (at + 1) 0) (turns - 1)
-  stepping-more h l f =
+  pub stepping-more : 2 ≤ left → getD s (at + 1) 0 ≤ left - 2 → Stepping s (at + (getD s (at + 1) 0 + 2)) (left - 2 - getD s (at + 1) 0)
+  stepping-more l f =
       let n = getD s (at + 1) 0 in
       let d : tlvsFit (drop (n + 2) (drop at s)) ≡ tlvsFit (drop at s) = rw (← at-byte) (tlvs-behind (drop at s) (rw left-drop l) (rw (left-drop, at-byte) f)) in
-      record { all = omega (arith, w .all); rest = rw (← drop-drop (n + 2) at s) (d ∙ w .rest); many = omega (arith, w .many) }
+      record { all = omega (arith, w .all); rest = rw (← drop-drop (n + 2) at s) (d ∙ w .rest) }
 
   stop : (at ≡ 0 → tlvsFit s ≡ eqb (length s) 0) → StepsOver s at
   stop f = record { inside = omega (arith, w .all); rest = w .rest; start = f }
-
-  -- no TLV more, or a lone byte
-  pub stepping-few : left < 2 → StepsOver s at
-  stepping-few l = stop (λ z. tlvs-few s (omega (arith, w .all)))
 
   -- a TLV that overruns
   pub stepping-over : 2 ≤ left → left - 2 < getD s (at + 1) 0 → StepsOver s at
   stepping-over h l =
       stop (λ z. let e : getD s (at + 1) 0 ≡ getD s 1 0 = ap (λ k. getD s k 0) (omega arith) in tlvs-over s (omega (arith, w .all)) (rw (← e) (omega (arith, w .all))))
 
-  -- eight TLVs
-  pub stepping-end : turns ≤ 0 → StepsOver s at
-  stepping-end l = stop (λ z. absurd (omega (arith, w .many)))
+  -- few bytes are left
+  pub stepping-end : (stop : ℕ) → left ≤ stop → (length s ≤ stop → length s < 2) → StepsOver s at
+  stepping-end m l f = stop (λ z. tlvs-few s (f (omega (arith, w .all))))
 
 -- the rest as a part of a slice
 pub steps-rest : (s : List ℕ) (at : ℕ) → StepsOver s at → tlvsFit (take (length s - at) (drop at s)) ≡ tlvsFit s

@@ -1,22 +1,30 @@
 // Whether a body is as the table has it.
 ghost use mathlib.Core.Path.{_≡_};
+ghost use Prim.Native.Nat.{_≤_, _<_};
 ghost use Rattle.model.specs.Object.{kindOf};
 ghost use Rattle.model.specs.Table.{row};
 ghost use Rattle.model.specs.Reading.{tlvsFit, fixedShape, recordedShape};
 ghost use Rattle.wire.specs.Tlv.{StepsOver};
 use crate::table;
 
-// Steps over eight TLVs at most, none of which overruns; answers the index behind them.
+// How many bytes are left, at most, where a call of the walk stops: it steps over some 128, or all but a last one.
+fn stop_of(size: usize) -> usize
+    ensures { λ r. ⌜ (1 ≤ r) × (size ≤ r → size < 2) ⌝ }
+{
+    if 128 < size {
+        return size - 128;
+    }
+    1
+}
+
+// Steps over TLVs, none of which overruns; answers the index behind them.
 fn behind_tlvs(tlvs: &[u8]) -> usize
     ensures { λ r. ⌜ StepsOver (now (tlvs .entry)) r ⌝ }
 {
     let mut at: usize = 0;
     let mut left = tlvs.len();
-    let mut turns: u8 = 8;
-    while 0 < turns {
-        if left < 2 {
-            return at;
-        }
+    let stop = stop_of(left);
+    while stop < left {
         let size = tlvs[at + 1] as usize;
         let behind = left - 2;
         if behind < size {
@@ -24,13 +32,11 @@ fn behind_tlvs(tlvs: &[u8]) -> usize
         }
         left = behind - size;
         at += size + 2;
-        turns -= 1;
     }
     at
 }
 
-// Whether TLVs fill the bytes. It calls itself on the bytes behind some TLVs, which are fewer by two or more; eight to a call keep
-// the stack small.
+// Whether TLVs fill the bytes. It calls itself on the bytes behind some TLVs, which are fewer by two or more.
 fn tlvs_fit(tlvs: &[u8]) -> bool
     ensures { λ r. ⌜ r ≡ tlvsFit (now (tlvs .entry)) ⌝ }
 {
