@@ -5,7 +5,6 @@ ghost use Prim.Native.Nat.{_≤_, _<_};
 ghost use lib.ListN.{length};
 use libc::STDIN_FILENO;
 use libc::STDOUT_FILENO;
-use model::Quantity;
 use wire::Reading;
 
 // The index of a byte in a text from an index on, or the text's length.
@@ -84,13 +83,16 @@ fn say_reading(container: &[u8]) {
                 say_number(place as u32);
             }
         }
-        Reading::WellFormed { count, summary } => {
+        Reading::WellFormed {
+            count,
+            constrained: _,
+            hops,
+        } => {
             say(b" objects ");
             say_number(count as u32);
-            let hops = summary.hops;
-            if let Quantity::Known(v) = hops {
+            if 0 < hops {
                 say(b" hops ");
-                say_number(v);
+                say_number((hops - 1) as u32);
             }
         }
     }

@@ -117,7 +117,8 @@ pub fn list(container: &[u8], out: &mut [u8]) -> Listed
         Reading::Refused { number, place: _ } => Listed::Text(put_refused(out, number)),
         Reading::WellFormed {
             count: _,
-            summary: _,
+            constrained: _,
+            hops: _,
         } => Listed::Text(put_lines(container, out)),
     }
 }

@@ -3,14 +3,16 @@ use mathlib.Core.Path.{_≡_}
 use Prim.Native.Nat.{ℕ}
 use mathlib.Core.Bool.{Bool, true, cond}
 use mathlib.Core.List.{List}
+use lib.ListN.{length}
 use lib.Dec.{eqb}
 use Rattle.model.specs.declared.Neighbour.{Neighbour}
 use Rattle.model.specs.declared.Summary.{Summary}
-use Rattle.model.specs.Number.{firstOf, indexOf}
+use Rattle.model.specs.Number.{anyOf, firstOf, indexOf}
 use Rattle.model.specs.Object.{Object, kind, known, role}
 use Rattle.model.specs.Table.{row}
 use Rattle.model.specs.Reading.{shaped, reading, wellFormed}
-use Rattle.model.specs.Constraint.{unknownMandatory, unmet, constraintBar}
+use Rattle.model.specs.Constraint.{hopCount, unknownMandatory, unmet, constraintBar}
+use Rattle.wire.specs.Reading.{hopsOf, constrains}
 use Rattle.verdict.specs.declared.candidate.Barring.{Barring}
 
 -- an object whose body is as tabled, if its type is known
@@ -25,6 +27,12 @@ barHolds n c s o = cond (eqb n 18) (unknownMandatory o) (unmet c s o)
 pub record WellFormed (bs : List ℕ) : Type 0 where
   pub objects : List Object
   pub read : reading bs ≡ wellFormed objects
+
+-- what was read of a well-formed container's objects: their number, whether some are constraints, and the count of the HP metric
+pub record ReadAs (count : ℕ) (constrained : Bool) (hops : ℕ) (os : List Object) : Type 0 where
+  pub objects : count ≡ length os
+  pub constraints : constrained ≡ anyOf constrains os
+  pub hop-metric : hops ≡ hopsOf (hopCount os)
 
 -- the first object with bar 18 or 19, by number and index
 pub record BarsFirst (c : Neighbour) (s : Summary) (os : List Object) (b : Barring) : Type 0 where

@@ -3,13 +3,16 @@ ghost use mathlib.Core.Path.{_≡_};
 ghost use mathlib.Core.List.{List};
 ghost use Rattle.model.specs.Object.{Object};
 ghost use Rattle.model.specs.Reading.{reading, wellFormed};
+ghost use Rattle.model.specs.Constraint.{summary};
 ghost use Rattle.model.specs.Verdict.{outOfRange, judgeReading, verdict};
-ghost use Rattle.verdict.specs.Judged.{WellFormed, BarsFirst};
+ghost use Rattle.wire.specs.Reading.{hopsOf};
+ghost use Rattle.verdict.specs.Judged.{WellFormed, ReadAs, BarsFirst};
 use crate::constraints;
 use crate::rank;
 use model::Candidate;
 use model::Neighbour;
 use model::Own;
+use model::Quantity;
 use model::Summary;
 use model::Verdict;
 use wire::Reading;
@@ -69,14 +72,52 @@ fn first_barring(neighbour: Neighbour, summary: Summary, container: &[u8]) -> Ba
     }
 }
 
+// What a container tells the tests of its own constraints, by one more than the count of its HP metric, 0 for none.
+fn summary_of(hops: u16) -> Summary
+    ensures { λ r. ⌜ hopsOf (r .hops) ≡ hops ⌝ }
+{
+    if hops == 0 {
+        return Summary {
+            hops: Quantity::Unknown,
+        };
+    }
+    Summary {
+        hops: Quantity::Known((hops - 1) as u32),
+    }
+}
+
+// The first object of a well-formed container with bar 18 or 19, by what was read of it: without constraints there is none.
+fn barring_of(
+    neighbour: Neighbour,
+    count: u16,
+    constrained: bool,
+    hops: u16,
+    container: &[u8],
+) -> Barring
+    requires { ⌜ WellFormed (now container) ⌝ }
+    ensures { λ r. ⌜ ((os : List Object) → reading (now (container .entry)) ≡ wellFormed os → ReadAs count constrained hops os → BarsFirst neighbour (summary os) os r) ⌝ }
+{
+    if !constrained {
+        return Barring {
+            number: 0,
+            place: count,
+        };
+    }
+    first_barring(neighbour, summary_of(hops), container)
+}
+
 // The verdict on a candidate past bars 11 and 12, by its container.
 fn judge_container(own: Own, neighbour: Neighbour, container: &[u8]) -> Verdict
     ensures { λ r. ⌜ r ≡ judgeReading own neighbour (reading (now (container .entry))) ⌝ }
 {
     match wire::read(container) {
         Reading::Refused { number, place } => Verdict::Barred { number, place },
-        Reading::WellFormed { count: _, summary } => {
-            let barring = first_barring(neighbour, summary, container);
+        Reading::WellFormed {
+            count,
+            constrained,
+            hops,
+        } => {
+            let barring = barring_of(neighbour, count, constrained, hops, container);
             if barring.number != 0 {
                 return Verdict::Barred {
                     number: barring.number,

@@ -1,19 +1,25 @@
 -- One object more behind others: the first bar, its index, the count of the HP metric.
-use mathlib.Core.Path.{_≡_, refl, sym, ap, _∙_}
-use Prim.Native.Nat.{ℕ, zero, suc, _+_, _≤_}
-use mathlib.Core.List.{List, [], _∷_, _++_}
+use mathlib.Core.Path.{_≡_, refl, sym, ap, subst, _∙_}
+use Prim.Native.Nat.{ℕ, zero, suc, _+_, _/_, _%_, _≤_}
+use mathlib.Core.Bool.{true, false}
+use mathlib.Core.List.{List, [], _∷_, _++_, append-assoc, append-nil}
 use lib.ListN.{length, length-append}
-use Rattle.model.specs.Number.{first, firstOf, indexOf}
-use Rattle.model.specs.Object.{Object, standings}
-use Rattle.model.specs.Reading.{objectBar, readAs}
+use lib.Bits.{bitOr}
+use Rattle.model.specs.Number.{isSet, anyOf, first, firstOf, indexOf}
+use Rattle.model.specs.Object.{Object, kind, known, role, standings}
+use Rattle.model.specs.Table.{row}
+use Rattle.model.specs.Reading.{cannotBe, shaped, sameUse, objectBar, readAs}
 use Rattle.model.specs.Constraint.{hopCount}
 use Rattle.model.proofs.FirstLaws.{first-snoc, index-none, index-snoc, index-le, standings-snoc, length-standings}
+use Rattle.model.proofs.CutLaws.{no-bar}
 use Rattle.wire.specs.declared.container.Gathered.{Gathered}
 use Rattle.wire.specs.declared.container.Reading.the-variants.{Refused, WellFormed}
 use Rattle.wire.specs.Seen.{Marks}
-use Rattle.wire.specs.Gathered.{hopsIn, Gathers, wholeReading}
-use Rattle.wire.specs.Reading.{readingOf}
-use Rattle.wire.proofs.SeenLaws.{no-marks}
+use Rattle.wire.specs.Gathered.{Gathers, wholeReading}
+use Rattle.wire.specs.Reading.{hopsOf, readingOf}
+use Rattle.wire.proofs.BarLaws.{bar-unknown}
+use Rattle.wire.proofs.SeenLaws.{no-marks, marks-unknown, flags-with}
+use Rattle.wire.proofs.HopLaws.{hops-unknown}
 
 -- the bar and the index among objects
 abbrev barAmong : List Object → ℕ
@@ -35,9 +41,9 @@ place-none os e = index-none objectBar (standings [] os) e ∙ length-standings 
 
 -- ---- what is gathered
 
-pub gathers-none : Gathers (record { number = 0; place = 0; seen = 0; hops = 256 }) []
+pub gathers-none : Gathers (record { number = 0; place = 0; seen = 0; hops = 0; flags = 0 }) []
 unfolding firstOf indexOf standings hopCount
-gathers-none = record { number = refl; place = refl; seen = λ e. no-marks; hops = λ e. refl }
+gathers-none = record { number = refl; place = refl; seen = λ e. no-marks; hops = λ e. refl; constrained = λ e. refl }
 
 -- no more objects stand before the place than there are
 pub gathers-le : (g : Gathered) (es : List Object) → Gathers g es → g .place ≤ length es
@@ -48,22 +54,22 @@ module _ (g : Gathered) (es : List Object) (o : Object) (w : Gathers g es) where
   pub gathers-kept : (g .number ≡ 0 → ⊥) → Gathers g (es ++ (o ∷ []))
   gathers-kept h =
       let n : g .number ≡ barAmong (es ++ (o ∷ [])) = w .number ∙ sym (bar-snoc es o ∙ go (barAmong es) (λ e. h (w .number ∙ e))) in
-      record { number = n; place = w .place ∙ sym (place-snoc es o (λ e. h (n ∙ e))); seen = λ e. absurd (h e); hops = λ e. absurd (h e) }
+      record { number = n; place = w .place ∙ sym (place-snoc es o (λ e. h (n ∙ e))); seen = λ e. absurd (h e); hops = λ e. absurd (h e); constrained = λ e. absurd (h e) }
     where
       go : (a : ℕ) → (a ≡ 0 → ⊥) → first a (objectBar (record { earlier = es; object = o })) ≡ a
       go zero h = absurd (h refl)
       go (suc a) h = refl
 
   -- the first bar
-  pub gathers-bar : (n : ℕ) → g .number ≡ 0 → n ≡ objectBar (record { earlier = es; object = o }) → (n ≡ 0 → ⊥)
-      → Gathers (record { number = n; place = g .place; seen = g .seen; hops = g .hops }) (es ++ (o ∷ []))
-  gathers-bar n z e h =
+  pub gathers-bar : (n f : ℕ) → g .number ≡ 0 → n ≡ objectBar (record { earlier = es; object = o }) → (n ≡ 0 → ⊥)
+      → Gathers (record { number = n; place = g .place; seen = g .seen; hops = g .hops; flags = f }) (es ++ (o ∷ []))
+  gathers-bar n f z e h =
       let q : n ≡ barAmong (es ++ (o ∷ [])) = e ∙ sym (bar-snoc es o ∙ rw (← w .number, z)) in
-      record { number = q; place = w .place ∙ sym (place-snoc es o (λ x. h (q ∙ x))); seen = λ x. absurd (h x); hops = λ x. absurd (h x) }
+      record { number = q; place = w .place ∙ sym (place-snoc es o (λ x. h (q ∙ x))); seen = λ x. absurd (h x); hops = λ x. absurd (h x); constrained = λ x. absurd (h x) }
 
   -- no bar
-  pub gathers-more : (s q : ℕ) → g .number ≡ 0 → 0 ≡ objectBar (record { earlier = es; object = o }) → Marks s (es ++ (o ∷ [])) → hopsIn q ≡ hopCount (es ++ (o ∷ []))
-      → Gathers (record { number = 0; place = g .place + 1; seen = s; hops = q }) (es ++ (o ∷ []))
+  pub gathers-more : (s q : ℕ) → g .number ≡ 0 → 0 ≡ objectBar (record { earlier = es; object = o }) → Marks s (es ++ (o ∷ [])) → q ≡ hopsOf (hopCount (es ++ (o ∷ [])))
+      → Gathers (record { number = 0; place = g .place + 1; seen = s; hops = q; flags = bitOr (g .flags) (o .flags) }) (es ++ (o ∷ []))
   gathers-more s q z e m p =
       let n : barAmong (es ++ (o ∷ [])) ≡ 0 = bar-snoc es o ∙ rw (← w .number, z) (sym e) in
       let k : g .place ≡ length es = w .place ∙ place-none es (sym (w .number) ∙ z) in
@@ -72,7 +78,25 @@ module _ (g : Gathered) (es : List Object) (o : Object) (w : Gathers g es) where
         place = rw (k, place-none (es ++ (o ∷ [])) n, length-append es (o ∷ []));
         seen = λ x. m;
         hops = λ x. p;
+        constrained = λ x. flags-with (g .flags) es o (w .constrained z);
       }
+
+  -- an object of unknown type
+  pub gathers-unknown : g .number ≡ 0 → known (kind o) ≡ false
+      → Gathers (record { number = 0; place = g .place + 1; seen = g .seen; hops = g .hops; flags = bitOr (g .flags) (o .flags) }) (es ++ (o ∷ []))
+  gathers-unknown z k =
+      gathers-more (g .seen) (g .hops) z (bar-unknown es o k) (marks-unknown (g .seen) es o (w .seen z) k) (w .hops z ∙ sym (ap hopsOf (hops-unknown es o k)))
+
+-- an object without a bar is of a use that was not seen
+pub bar-fresh : (es : List Object) (o : Object) → known (kind o) ≡ true → objectBar (record { earlier = es; object = o }) ≡ 0 → anyOf (sameUse o) es ≡ false
+unfolding objectBar
+bar-fresh es o k e =
+    no-bar (cannotBe (role o) (row (kind o))) (shaped (role o) (row (kind o)) (o .body)) (anyOf (sameUse o) es) (rw k at e) .2
+
+-- a bar stays the first, whatever objects stand behind
+pub gathers-behind : (g : Gathered) (rest es : List Object) → Gathers g es → (g .number ≡ 0 → ⊥) → Gathers g (es ++ rest)
+gathers-behind g [] es w h = rw (append-nil es) w
+gathers-behind g (o ∷ rest) es w h = subst (λ (os : List Object). Gathers g os) (append-assoc es (o ∷ []) rest) (gathers-behind g rest (es ++ (o ∷ [])) (gathers-kept g es o w h) h)
 
 -- what is gathered of all objects gives the reading
 pub gathers-refused : (g : Gathered) (os : List Object) → Gathers g os → (g .number ≡ 0 → ⊥) → Refused (g .number) (g .place) ≡ readingOf (wholeReading os)
@@ -82,7 +106,7 @@ gathers-refused g os w h = rw (w .number, w .place) (go (barAmong os) (λ e. h (
     go zero h = absurd (h refl)
     go (suc n) h = refl
 
-pub gathers-whole : (g : Gathered) (os : List Object) → Gathers g os → g .number ≡ 0 → WellFormed (g .place) (record { hops = hopsIn (g .hops) }) ≡ readingOf (wholeReading os)
+pub gathers-whole : (g : Gathered) (os : List Object) → Gathers g os → g .number ≡ 0 → WellFormed (g .place) (isSet (g .flags / 2 % 2)) (g .hops) ≡ readingOf (wholeReading os)
 gathers-whole g os w z =
     let n : barAmong os ≡ 0 = sym (w .number) ∙ z in
-    rw (w .place, w .hops z, place-none os n, n)
+    rw (w .place, w .constrained z, w .hops z, place-none os n, n)

@@ -3,13 +3,13 @@ use mathlib.Core.Path.{_≡_, refl, sym, ap, _∙_}
 use Prim.Native.Nat.{ℕ, zero, suc, _+_, _-_, _*_, _/_, _%_, _^_, _≤_, _<_}
 use native.Mathlib.Nat.{one-mul, div-self, div-eq-of-lt, mul-mod-left, pow-suc, zero-div}
 use native.Mathlib.Omega.{arith}
-use mathlib.Core.Bool.{Bool, true, false, _&&_, _||_, or-false}
+use mathlib.Core.Bool.{Bool, true, false, _&&_, _||_, or-false, true≢false}
 use mathlib.Core.List.{List, [], _∷_, _++_}
 use lib.Dec.{eqb, ltb, leb}
 use lib.Pow.{pow-pos, pow-lt, pow-add, shl-exact, shl-shr}
 use lib.Bits.{bitOr, or-shr, or-mod, or-zero-r}
 use borrow.Author.Tests.{eq-eqb, ne-eqb, eqb-true, eqb-false, ltb-true, ltb-false, leb-true}
-use Rattle.model.specs.Number.{anyOf}
+use Rattle.model.specs.Number.{isSet, anyOf}
 use Rattle.model.specs.Object.{Object, bitC, kind, known}
 use Rattle.model.specs.Reading.{sameUse}
 use Rattle.model.proofs.BoolLaws.{both}
@@ -17,6 +17,8 @@ use Rattle.model.proofs.ListLaws.{any-append}
 use Rattle.model.proofs.TypeLaws.{known-types}
 use Rattle.wire.specs.Row.{hasBit}
 use Rattle.wire.specs.Seen.{useIndex, Marks}
+use Rattle.wire.specs.Reading.{constrains}
+use Rattle.wire.proofs.HeaderLaws.{constraint-by}
 
 -- ---- a bit set in a number
 
@@ -38,13 +40,13 @@ bit-pow k j h = go (ltb k j) refl
 shift-one : (k : ℕ) → k < 16 → (1 * 2 ^ k) % 65536 ≡ 2 ^ k
 shift-one k h = shl-exact 1 k 16 (omega arith) (omega arith) ∙ one-mul (2 ^ k)
 
-or-bit : (n k j : ℕ) → bitOr n (2 ^ k) / 2 ^ j % 2 ≡ bitOr (n / 2 ^ j % 2) (2 ^ k / 2 ^ j % 2)
-or-bit n k j = ap (λ (m : ℕ). m % 2) (or-shr n (2 ^ k) j) ∙ or-mod (n / 2 ^ j) (2 ^ k / 2 ^ j) 1
+or-bit : (n m j : ℕ) → bitOr n m / 2 ^ j % 2 ≡ bitOr (n / 2 ^ j % 2) (m / 2 ^ j % 2)
+or-bit n m j = ap (λ (x : ℕ). x % 2) (or-shr n m j) ∙ or-mod (n / 2 ^ j) (m / 2 ^ j) 1
 
 -- what `n | (1 << k)` has is k, and what n has
 bit-with : (n k j : ℕ) → k < 16 → hasBit (bitOr n ((1 * 2 ^ k) % 65536)) j ≡ hasBit n j || eqb k j
 unfolding hasBit
-bit-with n k j h = rw (shift-one k h, or-bit n k j) (go (eqb k j) refl)
+bit-with n k j h = rw (shift-one k h, or-bit n (2 ^ k) j) (go (eqb k j) refl)
   where
     one : (x : ℕ) → x < 2 → eqb (bitOr x 1) 1 ≡ eqb x 1 || true
     one zero h = refl
@@ -93,3 +95,27 @@ pub marks-past : (n : ℕ) (es : List Object) (a : Object) (k : ℕ) → Marks n
 marks-past n es a k m e l o h =
     let z = known-bit o h in
     rw (any-append (sameUse o) es (a ∷ []), ← m o h, use-eqb o a, ne-eqb (useIndex a) (useIndex o) (λ q. omega arith)) (sym (or-false (hasBit n (useIndex o))))
+
+-- an object of unknown type is of no known type's use
+pub marks-unknown : (n : ℕ) (es : List Object) (a : Object) → Marks n es → known (kind a) ≡ false → Marks n (es ++ (a ∷ []))
+marks-unknown n es a m u o h = rw (any-append (sameUse o) es (a ∷ []), ← m o h, other) (sym (or-false (hasBit n (useIndex o))))
+  where
+    other : sameUse o a ≡ false
+    other = rw (ne-eqb (a .type) (o .type) (λ q. true≢false (sym (rw q h) ∙ u)))
+
+-- ---- the flags of several objects
+
+-- some object is a constraint where the flags of all, together, have C
+pub flags-with : (n : ℕ) (es : List Object) (a : Object) → isSet (n / 2 % 2) ≡ anyOf constrains es → isSet (bitOr n (a .flags) / 2 % 2) ≡ anyOf constrains (es ++ (a ∷ []))
+flags-with n es a e =
+    rw (any-append constrains es (a ∷ []), or-false (constrains a), ← e, ← constraint-by (a .flags) (a .mode), or-bit n (a .flags) 1)
+    (go (n / 2 % 2) (a .flags / 2 % 2) (omega arith) (omega arith))
+  where
+    go : (x y : ℕ) → x < 2 → y < 2 → eqb (bitOr x y) 1 ≡ eqb x 1 || eqb y 1
+    go zero zero h l = refl
+    go zero (suc zero) h l = refl
+    go zero (suc (suc y)) h l = absurd (omega arith)
+    go (suc zero) zero h l = refl
+    go (suc zero) (suc zero) h l = refl
+    go (suc zero) (suc (suc y)) h l = absurd (omega arith)
+    go (suc (suc x)) y h l = absurd (omega arith)

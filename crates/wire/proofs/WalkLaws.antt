@@ -25,7 +25,8 @@ pub walk-first : (bs : List ℕ) → Walked bs firstCursor []
 unfolding join
 walk-first bs = record { here = refl }
 
-so-far : (bs : List ℕ) (p : Cursor) (es : List Object) → Walked bs p es → dataObjects bs ≡ behind es (split (drop (p .at) bs))
+-- the objects of a container are those before a cursor, and those from it on
+pub so-far : (bs : List ℕ) (p : Cursor) (es : List Object) → Walked bs p es → dataObjects bs ≡ behind es (split (drop (p .at) bs))
 so-far bs p es w = ap split (w .here) ∙ split-append es (drop (p .at) bs)
 
 pub walk-found : (bs : List ℕ) (p : Cursor) (es : List Object) {h : Header} {start end : ℕ} {n : Cursor} → Walked bs p es

@@ -19,10 +19,11 @@ fn is_misused(header: Header) -> bool
     if objects::is_constraint(header) {
         return false;
     }
-    let row = table::row_of(header.mctype);
     if objects::is_recorded(header) {
+        let row = table::row_of(header.mctype);
         return !row.records;
     }
+    let row = table::row_of(header.mctype);
     row.allows == 0
 }
 

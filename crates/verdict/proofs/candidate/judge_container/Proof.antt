@@ -1,7 +1,7 @@
-use Rattle.model.specs.Reading.{reading}
-use Rattle.verdict.proofs.JudgeLaws.{judged-refused, read-objects, judged-object, judged-clear}
 use mathlib.Core.Path.{sym, _∙_}
 use borrow.Author.Needs.{needs}
+use Rattle.model.specs.Reading.{reading}
+use Rattle.verdict.proofs.JudgeLaws.{judged-refused, read-objects, judged-object, judged-clear}
 use Rattle.verdict.proofs.candidate.judge_container.Statement.{statement}
 use Rattle.verdict.proofs.candidate.judge_container.Tie as tie
 
@@ -11,12 +11,12 @@ read-requires c κs = search needs
 enum-known-number : tie.Need-enum-known-number
 enum-known-number c = search needs
 
-enum-known-summary : tie.Need-enum-known-summary
-enum-known-summary c = search needs
+enum-known-count : tie.Need-enum-known-count
+enum-known-count c = search needs
 
-first-barring-requires : tie.Need-first-barring-requires
-first-barring-requires c κs =
-    let (os, q, s) = read-objects _ _ _ (sym (c .before .summary .given .1) ∙ c .before .before .before .read .ensures) in
+barring-of-requires : tie.Need-barring-of-requires
+barring-of-requires c κs =
+    let (os, q) = read-objects _ _ _ _ (sym (c .before .count .given .1) ∙ c .before .before .before .read .ensures) in
     record { objects = os; read = q }
 
 returns : tie.Need-returns
@@ -24,7 +24,7 @@ returns c =
     let barring = c .before .before in
     let match = barring .before .before in
     let args = match .before .before .before .before .args in
-    judged-object (args .own) (args .neighbour) _ _ _ _ (sym (match .summary .given .1) ∙ match .before .before .read .ensures) (barring .first-barring .ensures) (c .if1 .taken)
+    judged-object (args .own) (args .neighbour) _ _ _ _ _ (sym (match .count .given .1) ∙ match .before .before .read .ensures) (barring .barring-of .ensures) (c .if1 .taken)
 
 judge-rank-requires : tie.Need-judge-rank-requires
 judge-rank-requires c κs = search needs
@@ -41,17 +41,9 @@ returns-3 c =
     let match = barring .before .before in
     let args = match .before .before .before .before .args in
     c .judge-rank .ensures
-    ∙ judged-clear (args .own) (args .neighbour) _ _ _ _ (sym (match .summary .given .1) ∙ match .before .before .read .ensures) (barring .first-barring .ensures) (c .before .if1 .left)
+    ∙ judged-clear (args .own) (args .neighbour) _ _ _ _ _ (sym (match .count .given .1) ∙ match .before .before .read .ensures) (barring .barring-of .ensures) (c .before .if1 .left)
 
 pub judge-container-spec : {M : Type 1} → statement M
 judge-container-spec =
     tie.close
-    (tie.spec
-    read-requires
-    enum-known-number
-    enum-known-summary
-    first-barring-requires
-    returns
-    judge-rank-requires
-    returns-2
-    returns-3)
+    (tie.spec read-requires enum-known-number enum-known-count barring-of-requires returns judge-rank-requires returns-2 returns-3)

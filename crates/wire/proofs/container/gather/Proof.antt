@@ -1,14 +1,22 @@
-use Rattle.wire.specs.Step.{objectOf}
-use Rattle.wire.proofs.GatherLaws.{gathers-kept, gathers-bar, gathers-more}
 use mathlib.Core.Path.{sym, _∙_}
 use borrow.Author.Needs.{needs}
+use borrow.Author.Tests.{not-true, not-false}
+use Rattle.wire.specs.Step.{objectOf}
+use Rattle.wire.proofs.GatherLaws.{gathers-unknown, gathers-bar, gathers-more, bar-fresh}
 use Rattle.wire.proofs.container.gather.Statement.{statement}
 use Rattle.wire.proofs.container.gather.Tie as tie
 
+is-known-requires : tie.Need-is-known-requires
+is-known-requires c κs = search needs
+
+add-t8 : tie.Need-add-t8
+add-t8 c = search needs
+
 returns : tie.Need-returns
 returns c = λ es w.
-    let args = c .before .before .before .args in
-    gathers-kept _ es (objectOf (args .header) (args .body .now)) w (c .if1 .taken)
+    let tested = c .before in
+    let start = tested .before .before .before .before .before in
+    gathers-unknown _ es (objectOf (start .args .header) (start .args .body .now)) w (start .pre .1) (sym (tested .before .is-known .ensures) ∙ not-true _ (tested .if1 .taken))
 
 has-requires : tie.Need-has-requires
 has-requires c κs = search needs
@@ -18,13 +26,12 @@ object-bar-requires c κs = search needs
 
 returns-2 : tie.Need-returns-2
 returns-2 c = λ es w.
-    let clear = c .before .before .before in
-    let args = clear .before .before .before .args in
-    let z = clear .if1 .left in
-    gathers-bar _ es (objectOf (args .header) (args .body .now)) w _ z (c .before .object-bar .ensures es (λ k. c .before .before .has .ensures es (w .seen z) k)) (c .if2 .taken)
+    let start = c .before .before .before .before .before .before .before .before in
+    gathers-bar _ es (objectOf (start .args .header) (start .args .body .now)) w _ _ (start .pre .1)
+    (c .before .object-bar .ensures es (λ k. c .before .before .has .ensures es (w .seen (start .pre .1)) k)) (c .if2 .taken)
 
-add-t6 : tie.Need-add-t6
-add-t6 c = search needs
+add-t9 : tie.Need-add-t9
+add-t9 c = search needs
 
 with-requires : tie.Need-with-requires
 with-requires c κs = search needs
@@ -35,22 +42,15 @@ hops-with-requires c κs = search needs
 returns-3 : tie.Need-returns-3
 returns-3 c = λ es w.
     let barred = c .before .before .before .before in
-    let clear = barred .before .before in
-    let args = clear .before .before .before .args in
-    let z = clear .if1 .left in
-    gathers-more _ es (objectOf (args .header) (args .body .now)) w _ _ z
-    (sym (c .before .before .before .if2 .left) ∙ barred .object-bar .ensures es (λ k. barred .before .has .ensures es (w .seen z) k))
-    (c .before .with .ensures es (args .body .now) (w .seen z)) (c .hops-with .ensures es (w .hops z))
+    let tested = barred .before .before in
+    let start = tested .before .before .before .before .before in
+    let o = objectOf (start .args .header) (start .args .body .now) in
+    let z = start .pre .1 in
+    let known = sym (tested .before .is-known .ensures) ∙ not-false _ (tested .if1 .left) in
+    let bar = sym (c .before .before .before .if2 .left) ∙ barred .object-bar .ensures es (λ k. barred .before .has .ensures es (w .seen z) k) in
+    gathers-more _ es o w _ _ z bar (c .before .with .ensures es (start .args .body .now) (w .seen z)) (c .hops-with .ensures es (w .hops z) (bar-fresh es o known (sym bar)))
 
 pub gather-spec : {M : Type 1} → statement M
 gather-spec =
     tie.close
-    (tie.spec
-    returns
-    has-requires
-    object-bar-requires
-    returns-2
-    add-t6
-    with-requires
-    hops-with-requires
-    returns-3)
+    (tie.spec is-known-requires add-t8 returns has-requires object-bar-requires returns-2 add-t9 with-requires hops-with-requires returns-3)

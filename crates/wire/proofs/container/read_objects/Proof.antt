@@ -1,5 +1,5 @@
 use Rattle.wire.proofs.StepLaws.{left, step-inside}
-use Rattle.wire.proofs.ReadLaws.{Pass, pass-first, pass-found, pass-place, read-14, read-whole}
+use Rattle.wire.proofs.ReadLaws.{Pass, pass-first, pass-found, pass-barred, pass-place, read-14, read-whole}
 use mathlib.Core.Path.{sym, _∙_}
 use native.Mathlib.Omega.{arith}
 use borrow.Author.Needs.{needs}
@@ -43,24 +43,36 @@ part-gather-end c =
 gather-requires : tie.Need-gather-requires Inv-loop μ-loop
 gather-requires c κs =
     let at-step = c .before .before .before .before in
-    pass-place _ _ _ (at-step .before .loop .inv) (sym (at-step .next .ensures) ∙ c .before .before .header .given .1) (at-step .before .before .before .before .pre)
+    let pass = at-step .before .loop .inv in
+    (pass-place _ _ _ pass (sym (at-step .next .ensures) ∙ c .before .before .header .given .1) (at-step .before .before .before .before .pre), pass .clear)
+
+barred-requires : tie.Need-barred-requires Inv-loop μ-loop
+barred-requires c κs = search needs
+
+returns : tie.Need-returns Inv-loop μ-loop
+returns c =
+    let gathered = c .before .before .before in
+    let match = gathered .before .before .before in
+    let at-step = match .before .before in
+    c .barred .ensures ∙ pass-barred _ _ _ _ (at-step .before .loop .inv) (sym (at-step .next .ensures) ∙ match .header .given .1) (gathered .gather .ensures) (c .before .if1 .taken)
 
 loop-less : tie.Need-loop-less Inv-loop μ-loop
 loop-less c =
-    let match = c .before .before .before in
+    let match = c .before .before .before .before .before in
     step-inside _ _ (sym (match .before .before .next .ensures) ∙ match .header .given .1) .1 .1
 
 loop-again : tie.Need-loop-again Inv-loop μ-loop
 loop-again c =
-    let match = c .before .before .before in
+    let gathered = c .before .before in
+    let match = gathered .before .before .before in
     let at-step = match .before .before in
-    pass-found _ _ _ _ (at-step .before .loop .inv) (sym (at-step .next .ensures) ∙ match .header .given .1) (c .gather .ensures)
+    pass-found _ _ _ _ (at-step .before .loop .inv) (sym (at-step .next .ensures) ∙ match .header .given .1) (gathered .gather .ensures) (c .if1 .left)
 
 enum-told : tie.Need-enum-told Inv-loop μ-loop
 enum-told c = search needs
 
-returns : tie.Need-returns Inv-loop μ-loop
-returns c =
+returns-2 : tie.Need-returns-2 Inv-loop μ-loop
+returns-2 c =
     let at-step = c .before .before in
     read-14 _ _ _ (at-step .before .loop .inv) (sym (at-step .next .ensures) ∙ c .enum-told .given .1)
 
@@ -68,10 +80,10 @@ enum-told-2 : tie.Need-enum-told-2 Inv-loop μ-loop
 enum-told-2 c = search needs
 
 conclude-requires : tie.Need-conclude-requires Inv-loop μ-loop
-conclude-requires c κs = search needs
+conclude-requires c κs = c .before .before .before .loop .inv .clear
 
-returns-2 : tie.Need-returns-2 Inv-loop μ-loop
-returns-2 c =
+returns-3 : tie.Need-returns-3 Inv-loop μ-loop
+returns-3 c =
     let at-step = c .before .before .before in
     read-whole _ _ _ _ (at-step .before .loop .inv) (sym (at-step .next .ensures) ∙ c .before .enum-told2 .given .1) (c .conclude .ensures)
 
@@ -89,10 +101,12 @@ read-objects-spec =
     part-gather-start
     part-gather-end
     gather-requires
+    barred-requires
+    returns
     loop-less
     loop-again
     enum-told
-    returns
+    returns-2
     enum-told-2
     conclude-requires
-    returns-2)
+    returns-3)
