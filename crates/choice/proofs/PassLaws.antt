@@ -1,7 +1,7 @@
 -- The pass over the candidates: what is gathered of those that are judged.
 use mathlib.Core.Path.{_≡_, refl, sym, _∙_}
 use Prim.Native.Nat.{ℕ, _+_, _*_, _^_, _≤_, _<_}
-use native.Mathlib.Nat.{lt-of-lt-of-le}
+use native.Mathlib.Nat.{lt-of-lt-of-le, add-zero, zero-mul, one-mul}
 use native.Mathlib.Omega.{arith}
 use native.Mathlib.Numerals.{add-one}
 use mathlib.Core.List.{List, [], _∷_, _++_, map, map-append}
@@ -10,7 +10,9 @@ use lib.Seq.{take-suc, length-take-le}
 use lib.Pow.{pow-mono}
 use Rattle.model.specs.declared.Own.{Own}
 use Rattle.model.specs.declared.Candidate.{Candidate}
+use Rattle.model.specs.declared.Rank.{Rank}
 use Rattle.model.specs.declared.Verdict.{Verdict}
+use Rattle.model.specs.declared.Verdict.the-variants.{Unbarred, Barred}
 use Rattle.model.specs.declared.Choice.{Choice}
 use Rattle.model.specs.declared.Choice.the-variants.{Nobody}
 use Rattle.model.specs.Reading.{noPlace}
@@ -75,20 +77,27 @@ pub record Pass (own : Own) (lent : List ℕ) (cs : List Candidate) (count i : �
   pub reached : i ≤ count
   pub gathered : Gathered own lent (take i cs) numbers places bits best
 
-module _ {own : Own} {lent : List ℕ} {cs : List Candidate} {count i : ℕ} (d : Candidate) {numbers places : List ℕ} {bits : ℕ} {best : Choice} {v : Verdict} {w : ℕ}
-    (pass : Pass own lent cs count i numbers places bits best) (h : i < count) (judged : v ≡ verdict own lent (getD cs i d)) (marks : w ≡ unbarredBit v * 2 ^ i) where
-  pub pass-more : {n p : ℕ} {b : Choice} → n ≡ numberOf v → p ≡ placeOf v → b ≡ afterVerdict (currentOf own) best i v
-      → Pass own lent cs count (i + 1) (set numbers i n) (set places i p) (bits + w) b
-  pass-more en ep eb = record {
+module _ {own : Own} {lent : List ℕ} {cs : List Candidate} {count i : ℕ} (d : Candidate) {numbers places : List ℕ} {bits : ℕ} {best : Choice} {v : Verdict}
+    (pass : Pass own lent cs count i numbers places bits best) (h : i < count) (judged : v ≡ verdict own lent (getD cs i d)) where
+  pass-more : Pass own lent cs count (i + 1) (set numbers i (numberOf v)) (set places i (placeOf v)) (bits + unbarredBit v * 2 ^ i) (afterVerdict (currentOf own) best i v)
+  pass-more = record {
     array = pass .array;
     few = pass .few;
     reached = omega arith;
-    gathered = gathered-more own lent cs i d (pass .array) (omega arith) (pass .gathered) judged en ep marks eb;
+    gathered = gathered-more own lent cs i d (pass .array) (omega arith) (pass .gathered) judged refl refl refl refl;
   }
 
-  pub pass-fits : bits + w < 65536
-  pass-fits =
-      gathered-bits (pass-more refl refl refl .gathered) (rw (length-take (i + 1) cs) (omega arith))
+  -- a candidate that is barred
+  pub pass-barred : {n p : ℕ} → v ≡ Barred n p → Pass own lent cs count (i + 1) (set numbers i n) (set places i p) bits best
+  pass-barred e = rw (e, zero-mul (2 ^ i), add-zero bits) at pass-more
+
+  -- one that is not
+  pub pass-unbarred : {r : Rank} {w : ℕ} {b : Choice} → v ≡ Unbarred r → w ≡ 2 ^ i → b ≡ afterVerdict (currentOf own) best i (Unbarred r)
+      → Pass own lent cs count (i + 1) (set numbers i 10) (set places i noPlace) (bits + w) b
+  pass-unbarred e ew eb = rw (ew, eb) (rw (e, one-mul (2 ^ i)) at pass-more)
+
+  pub pass-fits : {r : Rank} {w : ℕ} → v ≡ Unbarred r → w ≡ 2 ^ i → bits + w < 65536
+  pass-fits e ew = gathered-bits (pass-unbarred e ew refl .gathered) (rw (length-take (i + 1) cs) (omega arith))
 
 -- the pass is over
 pub pass-end : {own : Own} {lent : List ℕ} {cs : List Candidate} {count i : ℕ} {numbers places : List ℕ} {bits : ℕ} {best : Choice} → Pass own lent cs count i numbers places bits best

@@ -1,46 +1,18 @@
-// The answer of a call, and what a verdict adds to it.
+// The answer of a call.
 ghost use mathlib.Core.Path.{_≡_};
-ghost use Prim.Native.Nat.{_*_, _^_, _<_};
-ghost use Rattle.model.specs.Verdict.{numberOf, placeOf};
-ghost use Rattle.model.specs.Choice.{unbarredBit, noParent};
+ghost use Prim.Native.Nat.{_^_, _<_};
+ghost use Rattle.model.specs.Choice.{noParent};
 ghost use Rattle.choice.specs.Answered.{refusedAnswer, noRank, nothing, answerWith};
 use hop::Sent;
 use model::Answer;
 use model::Rank;
-use model::Verdict;
-
-// The number of a verdict.
-pub fn number_of(v: Verdict) -> u8
-    ensures { λ r. ⌜ r ≡ numberOf v ⌝ }
-{
-    match v {
-        Verdict::Unbarred(_) => 10,
-        Verdict::Barred { number, place: _ } => number,
-    }
-}
-
-// The place of a verdict.
-pub fn place_of(v: Verdict) -> u16
-    ensures { λ r. ⌜ r ≡ placeOf v ⌝ }
-{
-    match v {
-        Verdict::Unbarred(_) => 65535,
-        Verdict::Barred { number: _, place } => place,
-    }
-}
 
 // The bit of the candidate at a position, in its place.
-pub(crate) fn bit_at(v: Verdict, position: usize) -> u16
+pub(crate) fn bit_at(position: usize) -> u16
     requires { ⌜ position < 16 ⌝ }
-    ensures { λ r. ⌜ r ≡ unbarredBit v * 2 ^ position ⌝ }
+    ensures { λ r. ⌜ r ≡ 2 ^ position ⌝ }
 {
-    match v {
-        Verdict::Unbarred(_) => 1 << position,
-        Verdict::Barred {
-            number: _,
-            place: _,
-        } => 0,
-    }
+    1 << position
 }
 
 // The answer of a refused call.

@@ -7,6 +7,7 @@ use model::Answer;
 use model::Candidate;
 use model::Choice;
 use model::Own;
+use model::Verdict;
 
 mod answers;
 mod preference;
@@ -34,21 +35,30 @@ pub fn call(
     let mut best = Choice::Nobody;
     let mut i: usize = 0;
     while i < count {
-        let v = verdict::judge(own, candidates[i], lent);
-        numbers[i] = answers::number_of(v);
-        places[i] = answers::place_of(v);
-        bits += answers::bit_at(v, i);
-        best = preference::after_verdict(own, best, i, v);
-        i += 1;
+        match verdict::judge(own, candidates[i], lent) {
+            Verdict::Barred { number, place } => {
+                numbers[i] = number;
+                places[i] = place;
+                i += 1;
+            }
+            Verdict::Unbarred(rank) => {
+                numbers[i] = 10;
+                places[i] = 65535;
+                bits += answers::bit_at(i);
+                best = preference::better(own, best, i as u8, rank);
+                i += 1;
+            }
+        }
     }
     match best {
         Choice::Nobody => answers::without_parent(numbers, places, bits),
         Choice::Parent { position, rank } => {
-            let c = candidates[position];
+            let at = position as usize;
+            let c = candidates[at];
             let start = c.start;
             let end = start + c.size;
             let sent = hop::send(own, c.neighbour, &lent[start..end], out);
-            answers::answered(position as u8, rank, numbers, places, bits, sent)
+            answers::answered(position, rank, numbers, places, bits, sent)
         }
     }
 }

@@ -1,23 +1,23 @@
 // The choice of a preferred parent.
 ghost use mathlib.Core.Path.{_≡_};
+ghost use Rattle.model.specs.declared.Verdict.the-variants.{Unbarred};
 ghost use Rattle.model.specs.Choice.{currentOf, notCurrent, criteria, precedes, afterVerdict};
 use model::Choice;
 use model::Own;
 use model::Rank;
-use model::Verdict;
 
 // 0 for the current parent, 1 for any other.
-fn not_current(own: Own, position: usize) -> u8
+fn not_current(own: Own, position: u8) -> u8
     ensures { λ r. ⌜ r ≡ notCurrent (currentOf own) position ⌝ }
 {
-    if (own.flags / 16 % 2 == 1) & (own.current == position) {
+    if (own.flags / 16 % 2 == 1) & (own.current == position as usize) {
         return 0;
     }
     1
 }
 
 // Whether an unbarred candidate comes before another: by the lower rank, then as the current parent, then by the lower position.
-fn comes_before(own: Own, position: usize, rank: Rank, other: usize, than: Rank) -> bool
+fn comes_before(own: Own, position: u8, rank: Rank, other: u8, than: Rank) -> bool
     ensures { λ r. ⌜ r ≡ precedes (criteria (currentOf own) position rank) (criteria (currentOf own) other than) ⌝ }
 {
     if rank.0 != than.0 {
@@ -31,26 +31,20 @@ fn comes_before(own: Own, position: usize, rank: Rank, other: usize, than: Rank)
     position < other
 }
 
-// The best candidate so far, with the verdict on one more.
-pub fn after_verdict(own: Own, best: Choice, position: usize, v: Verdict) -> Choice
-    ensures { λ r. ⌜ r ≡ afterVerdict (currentOf own) best position v ⌝ }
+// The best candidate so far, with one more that is unbarred.
+pub fn better(own: Own, best: Choice, position: u8, rank: Rank) -> Choice
+    ensures { λ r. ⌜ r ≡ afterVerdict (currentOf own) best position (Unbarred rank) ⌝ }
 {
-    match v {
-        Verdict::Barred {
-            number: _,
-            place: _,
-        } => best,
-        Verdict::Unbarred(rank) => match best {
-            Choice::Nobody => Choice::Parent { position, rank },
-            Choice::Parent {
-                position: other,
-                rank: than,
-            } => {
-                if comes_before(own, position, rank, other, than) {
-                    return Choice::Parent { position, rank };
-                }
-                best
+    match best {
+        Choice::Nobody => Choice::Parent { position, rank },
+        Choice::Parent {
+            position: other,
+            rank: than,
+        } => {
+            if comes_before(own, position, rank, other, than) {
+                return Choice::Parent { position, rank };
             }
-        },
+            best
+        }
     }
 }

@@ -74,7 +74,7 @@ pub enum Verdict {
 // The preferred parent, where there is one.
 pub enum Choice {
     Nobody,
-    Parent { position: usize, rank: Rank },
+    Parent { position: u8, rank: Rank },
 }
 
 // The answer of a call. No parent is 255, no rank is 65535, no object's place is 65535.

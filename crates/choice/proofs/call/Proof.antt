@@ -7,7 +7,7 @@ use lib.ListN.{length, getD, take}
 use Rattle.model.specs.declared.Choice.the-variants.{Parent}
 use Rattle.model.specs.Choice.{choiceOf}
 use Rattle.choice.specs.Given.{blank}
-use Rattle.choice.proofs.PassLaws.{Pass, gathered-none, pass-more, pass-fits, pass-end}
+use Rattle.choice.proofs.PassLaws.{Pass, gathered-none, pass-barred, pass-unbarred, pass-fits, pass-end}
 use Rattle.choice.proofs.ParentLaws.{parent-at, parent-inside}
 use Rattle.choice.proofs.ReturnLaws.{runs, refused-returns, nobody-returns, parent-returns, as-returned}
 use Rattle.choice.proofs.call.Statement.{statement}
@@ -62,31 +62,17 @@ array-copy-out-judge c = omega arith
 judge-requires : tie.Need-judge-requires Inv-loop μ-loop
 judge-requires c κs = search needs
 
-number-of-requires : tie.Need-number-of-requires Inv-loop μ-loop
-number-of-requires c κs = search needs
+enum-known-number : tie.Need-enum-known-number Inv-loop μ-loop
+enum-known-number c = search needs
 
 array-write-numbers : tie.Need-array-write-numbers Inv-loop μ-loop
 array-write-numbers c = omega arith
-
-place-of-requires : tie.Need-place-of-requires Inv-loop μ-loop
-place-of-requires c κs = search needs
 
 mul-places : tie.Need-mul-places Inv-loop μ-loop
 mul-places c = omega arith
 
 array-write-places : tie.Need-array-write-places Inv-loop μ-loop
 array-write-places c = omega arith
-
-bit-at-requires : tie.Need-bit-at-requires Inv-loop μ-loop
-bit-at-requires c κs = omega arith
-
-add-bits : tie.Need-add-bits Inv-loop μ-loop
-add-bits c =
-    let at-loop = c .before .before .before .before .before in
-    record { fits = pass-fits _ (at-loop .before .loop .inv) (at-loop .loop-test .taken) (c .before .before .before .judge .ensures) (c .bit-at .ensures) }
-
-after-verdict-requires : tie.Need-after-verdict-requires Inv-loop μ-loop
-after-verdict-requires c κs = search needs
 
 add-i : tie.Need-add-i Inv-loop μ-loop
 add-i c = omega arith
@@ -96,8 +82,48 @@ loop-less c = omega arith
 
 loop-again : tie.Need-loop-again Inv-loop μ-loop
 loop-again c =
-    let at-loop = c .before .before .before .before .before .before in
-    pass-more _ (at-loop .before .loop .inv) (at-loop .loop-test .taken) (c .before .before .before .before .judge .ensures) (c .before .bit-at .ensures) (c .before .before .before .number-of .ensures) (c .before .before .place-of .ensures) (c .after-verdict .ensures)
+    let judged = c .before .before .before in
+    let at-loop = judged .before .before in
+    pass-barred _ (at-loop .before .loop .inv) (at-loop .loop-test .taken) (judged .judge .ensures) (c .before .number .given .1)
+
+enum-known-rank : tie.Need-enum-known-rank Inv-loop μ-loop
+enum-known-rank c = search needs
+
+array-write-numbers-2 : tie.Need-array-write-numbers-2 Inv-loop μ-loop
+array-write-numbers-2 c = omega arith
+
+mul-places-2 : tie.Need-mul-places-2 Inv-loop μ-loop
+mul-places-2 c = omega arith
+
+array-write-places-2 : tie.Need-array-write-places-2 Inv-loop μ-loop
+array-write-places-2 c = omega arith
+
+bit-at-requires : tie.Need-bit-at-requires Inv-loop μ-loop
+bit-at-requires c κs = omega arith
+
+add-bits : tie.Need-add-bits Inv-loop μ-loop
+add-bits c =
+    let judged = c .before .before .before .before in
+    let at-loop = judged .before .before in
+    record { fits = pass-fits _ (at-loop .before .loop .inv) (at-loop .loop-test .taken) (judged .judge .ensures) (c .before .before .rank .given .1) (c .bit-at .ensures) }
+
+cast-better : tie.Need-cast-better Inv-loop μ-loop
+cast-better c = omega arith
+
+better-requires : tie.Need-better-requires Inv-loop μ-loop
+better-requires c κs = search needs
+
+add-i-2 : tie.Need-add-i-2 Inv-loop μ-loop
+add-i-2 c = omega arith
+
+loop-less-2 : tie.Need-loop-less-2 Inv-loop μ-loop
+loop-less-2 c = omega arith
+
+loop-again-2 : tie.Need-loop-again-2 Inv-loop μ-loop
+loop-again-2 c =
+    let judged = c .before .before .before .before .before in
+    let at-loop = judged .before .before in
+    pass-unbarred _ (at-loop .before .loop .inv) (at-loop .loop-test .taken) (judged .judge .ensures) (c .before .before .before .rank .given .1) (c .before .bit-at .ensures) (c .better .ensures)
 
 enum-told : tie.Need-enum-told Inv-loop μ-loop
 enum-told c = search needs
@@ -107,6 +133,9 @@ without-parent-requires c κs = search needs
 
 enum-known-best : tie.Need-enum-known-best Inv-loop μ-loop
 enum-known-best c = search needs
+
+cast-at : tie.Need-cast-at Inv-loop μ-loop
+cast-at c = search needs
 
 mul-c : tie.Need-mul-c Inv-loop μ-loop
 mul-c c = omega (arith, place (c .before))
@@ -128,9 +157,6 @@ part-send-end c = omega (arith, place (c .before .before .before))
 
 send-requires : tie.Need-send-requires Inv-loop μ-loop
 send-requires c κs = search needs
-
-cast-answered : tie.Need-cast-answered Inv-loop μ-loop
-cast-answered c = omega (arith, place (c .before .before .before .before .before .before .before .before))
 
 answered-requires : tie.Need-answered-requires Inv-loop μ-loop
 answered-requires c κs = search needs
@@ -167,20 +193,28 @@ call-spec =
     mul-judge
     array-copy-out-judge
     judge-requires
-    number-of-requires
+    enum-known-number
     array-write-numbers
-    place-of-requires
     mul-places
     array-write-places
-    bit-at-requires
-    add-bits
-    after-verdict-requires
     add-i
     loop-less
     loop-again
+    enum-known-rank
+    array-write-numbers-2
+    mul-places-2
+    array-write-places-2
+    bit-at-requires
+    add-bits
+    cast-better
+    better-requires
+    add-i-2
+    loop-less-2
+    loop-again-2
     enum-told
     without-parent-requires
     enum-known-best
+    cast-at
     mul-c
     array-copy-out-c
     add-end
@@ -188,7 +222,6 @@ call-spec =
     part-send-start
     part-send-end
     send-requires
-    cast-answered
     answered-requires
     returns-2
     same-length
