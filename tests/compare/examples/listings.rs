@@ -1,0 +1,35 @@
+//! Listings.
+
+use super::{bytes, Trial, BEFORE};
+
+const LISTINGS: &[(&str, &str)] = &[
+    (
+        "02 11 07 00 00 02 01 C9 02 02 00 02 08 00 C8 00 80 01 AA",
+        "7 0 0 0 0 0 2\n2 1 0 0 0 0 2\n200 0 0 1 0 0 1\n",
+    ),
+    ("02 00", ""),
+    (
+        "02 08 00 FF FF 00 63 04 7A 00",
+        "0 1 1 1 7 15 0\n99 0 0 0 7 10 0\n",
+    ),
+    ("", "refused 13\n"),
+    ("02 03 07 00 00", "refused 14\n"),
+    ("02 05 07 00 00 01 00", "refused 15\n"),
+    ("02 0C 07 00 00 02 01 C9 07 00 00 02 01 C9", "refused 16\n"),
+    ("02 06 01 00 80 02 00 00", "refused 17\n"),
+];
+
+pub fn hold(trial: &mut Trial) {
+    for &(container, text) in LISTINGS {
+        let mut out = vec![BEFORE; 1100];
+        let size = (trial.list)(&mut bytes(container), &mut out);
+        let mut expected = text.as_bytes().to_vec();
+        expected.resize(1100, BEFORE);
+        trial.expect(container, text.len(), size);
+        trial.expect(container, expected, out);
+    }
+    let mut out = vec![BEFORE; 1099];
+    let size = (trial.list)(&mut [2, 0], &mut out);
+    trial.expect("too little room", usize::MAX, size);
+    trial.expect("too little room", vec![BEFORE; 1099], out);
+}

@@ -1,0 +1,109 @@
+//! Document 01's examples, and one case at least for each of its numbers, tried on the reference
+//! and on the library.
+
+mod bars;
+mod choices;
+mod hops;
+mod leaves;
+mod listings;
+mod ranks;
+mod refusals;
+
+use super::reference::data::*;
+use super::{library, reference};
+
+/// What stands in the output before a call.
+const BEFORE: u8 = 0xEE;
+
+const OWN: Own = Own {
+    minhop: 256,
+    maxincrease: 0,
+    lowest: 0,
+    nodetype: 1,
+    flags: AGGREGATOR | ENERGY_KNOWN,
+    energy: 100,
+    current: 0,
+};
+
+/// A mains-powered neighbour, one unit away, whose energy and throughput are unknown.
+const NEIGHBOUR: Neighbour = Neighbour {
+    rank: 256,
+    sp: 1,
+    rf: 1,
+    sr: 0,
+    nodetype: 0,
+    flags: OVERLOADED | ETX_KNOWN | LATENCY_KNOWN,
+    energy: 0,
+    lql: 2,
+    etx: 128,
+    latency: 1000,
+    throughput: 0,
+};
+
+/// Either implementation, and what of it does not hold, a line each.
+struct Trial {
+    name: &'static str,
+    choose: fn(Own, &[Candidate; CANDIDATES], usize, &mut [u8], &mut [u8]) -> Answer,
+    list: fn(&mut [u8], &mut [u8]) -> usize,
+    failed: Vec<String>,
+}
+
+/// The examples that do not hold, of the reference and of the library.
+pub fn failed() -> Vec<String> {
+    let mut trials = [
+        Trial {
+            name: "the reference",
+            choose: |own, candidates, count, lent, out| {
+                reference::choose(own, candidates, count, lent, out)
+            },
+            list: |container, out| reference::list(container, out),
+            failed: Vec::new(),
+        },
+        Trial {
+            name: "the library",
+            choose: library::choose,
+            list: library::list,
+            failed: Vec::new(),
+        },
+    ];
+    for trial in &mut trials {
+        ranks::hold(trial);
+        refusals::hold(trial);
+        bars::hold(trial);
+        leaves::hold(trial);
+        hops::hold(trial);
+        choices::hold(trial);
+        listings::hold(trial);
+    }
+    trials.map(|trial| trial.failed).concat()
+}
+
+impl Trial {
+    /// One candidate with one container, given in hex, and an output of 257 bytes.
+    fn one(&self, own: Own, neighbour: Neighbour, container: &str) -> (Answer, Vec<u8>) {
+        let mut lent = bytes(container);
+        let mut candidates = [Candidate::default(); CANDIDATES];
+        candidates[0] = Candidate {
+            neighbour,
+            start: 0,
+            size: lent.len(),
+        };
+        let mut out = vec![BEFORE; 257];
+        let answer = (self.choose)(own, &candidates, 1, &mut lent, &mut out);
+        (answer, out)
+    }
+
+    /// Notes an example that does not hold.
+    fn expect<T: PartialEq + std::fmt::Debug>(&mut self, name: &str, expected: T, given: T) {
+        if expected != given {
+            let program = self.name;
+            let line = format!("{name}: {program} gives {given:?}, not {expected:?}");
+            self.failed.push(line);
+        }
+    }
+}
+
+fn bytes(hex: &str) -> Vec<u8> {
+    let byte = |word| u8::from_str_radix(word, 16).expect("two hex digits");
+    hex.split_whitespace().map(byte).collect()
+}

@@ -1,0 +1,55 @@
+//! Refusals of the whole call, in their order.
+
+use super::{Trial, BEFORE, OWN};
+use crate::reference::data::{Answer, Candidate, Own, CANDIDATES, CURRENT_GIVEN};
+
+const CURRENT: Own = Own {
+    flags: CURRENT_GIVEN,
+    ..OWN
+};
+const PAST: Own = Own {
+    current: 1,
+    ..CURRENT
+};
+const NO_UNIT: Own = Own { minhop: 0, ..PAST };
+const TYPE_4: Own = Own {
+    nodetype: 4,
+    ..PAST
+};
+
+/// Own numbers, how many candidates, the length of the output, and the refusal.
+const REFUSALS: &[(Own, usize, usize, u8)] = &[
+    (NO_UNIT, 17, 0, 1),
+    (TYPE_4, 17, 0, 1),
+    (PAST, 17, 0, 2),
+    (PAST, usize::MAX, 257, 2),
+    (PAST, 1, 0, 3),
+    (CURRENT, 0, 257, 3),
+    (CURRENT, 1, 256, 4),
+    (OWN, 0, 0, 4),
+    (OWN, 0, 257, 0),
+    (OWN, 16, 300, 0),
+];
+
+pub fn hold(trial: &mut Trial) {
+    for &(own, count, room, refusal) in REFUSALS {
+        let mut out = vec![BEFORE; room];
+        let candidates = [Candidate::default(); CANDIDATES];
+        let mut answer = (trial.choose)(own, &candidates, count, &mut [2, 0], &mut out);
+        let name = format!("{count} candidates, {room} bytes, {own:?}");
+        if refusal == 0 {
+            // every candidate has Sp 0
+            trial.expect(&name, count, ones(&answer.verdicts, 11));
+            answer.verdicts = [0; CANDIDATES];
+        }
+        trial.expect(&name, Answer::refused(refusal), answer);
+        trial.expect(&name, vec![BEFORE; room], out);
+    }
+}
+
+fn ones(verdicts: &[u8], number: u8) -> usize {
+    verdicts
+        .iter()
+        .filter(|&&verdict| verdict == number)
+        .count()
+}

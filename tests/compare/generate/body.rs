@@ -1,0 +1,192 @@
+//! The bodies of known objects, with values at or beside those that decide.
+
+use super::object::{Body, Maker};
+
+impl Maker<'_> {
+    /// The body of a constraint, its limit at or beside the neighbour's value.
+    pub fn limit(&mut self, kind: u8) -> Body {
+        let link = self.link;
+        match kind {
+            1 => self.state_asked(),
+            2 => self.energy_asked(),
+            3 => {
+                let limit = self.bound(Some(self.hops.into()), 255, false, 1) as u8;
+                Body {
+                    bytes: vec![self.random.byte(), limit],
+                    smooth: self.counted && self.hops < 255,
+                }
+            }
+            4 => self.link_limit(link.throughput(), true),
+            5 => self.link_limit(link.latency(), false),
+            6 => {
+                let val = self.bound(Some(link.lql.into()), 7, false, 0) as u8;
+                let counter = self.random.byte() & 31;
+                Body {
+                    bytes: vec![self.random.byte(), val << 5 | counter],
+                    smooth: link.lql > 0,
+                }
+            }
+            _ => {
+                let limit = self.bound(link.etx().map(u32::from), 65535, false, 0) as u16;
+                Body {
+                    bytes: limit.to_be_bytes().to_vec(),
+                    smooth: link.etx().is_some(),
+                }
+            }
+        }
+    }
+
+    fn link_limit(&mut self, value: Option<u32>, least: bool) -> Body {
+        let limit = self.bound(value, u32::MAX, least, 0);
+        Body {
+            bytes: limit.to_be_bytes().to_vec(),
+            smooth: value.is_some(),
+        }
+    }
+
+    /// A limit beside a value: on the side where it is met if constraints are to be, `apart` the
+    /// least distance there.
+    fn bound(&mut self, value: Option<u32>, most: u32, least: bool, apart: u32) -> u32 {
+        let Some(value) = value else {
+            return self.random.edgy_long() & most;
+        };
+        if !self.scene.fitting {
+            return self.random.near(value, most);
+        }
+        let distance = apart + self.random.below(2) as u32;
+        match least {
+            true => value.saturating_sub(distance),
+            false => value.saturating_add(distance).min(most),
+        }
+    }
+
+    fn state_asked(&mut self) -> Body {
+        let asked = self.random.byte();
+        let missing = asked & 0x02 & !self.link.flags | asked & 0x01 & self.link.flags;
+        let asked = match self.scene.fitting {
+            true => asked & !missing,
+            false => asked,
+        };
+        Body {
+            bytes: vec![self.random.byte(), asked],
+            smooth: self.scene.fitting,
+        }
+    }
+
+    /// An NE constraint on the neighbour's type, or on another, at or beside its energy.
+    fn energy_asked(&mut self) -> Body {
+        let same = self.random.once_in(2);
+        let t = match same {
+            true => self.link.nodetype,
+            false => self.link.nodetype ^ self.random.within(1, 3) as u8,
+        };
+        let included = self.random.once_in(2);
+        let estimated = !self.random.once_in(3);
+        let noise = self.random.byte() & 0xF0;
+        let flags = noise | u8::from(included) << 3 | t << 1 | u8::from(estimated);
+        let threshold = self.random.near(self.link.energy.into(), 255) as u8;
+        let energy = self.link.energy();
+        let smooth = match (included, estimated) {
+            (true, false) => same,
+            (true, true) => same && energy.is_some_and(|energy| energy > threshold),
+            (false, false) => !same,
+            (false, true) => !same || energy.is_some_and(|energy| energy >= threshold),
+        };
+        Body {
+            bytes: vec![flags, threshold],
+            smooth,
+        }
+    }
+
+    /// The body of an aggregated metric, its value where sums and comparisons turn.
+    pub fn total(&mut self, kind: u8) -> Body {
+        let link = self.link;
+        match kind {
+            1 => Body {
+                bytes: self.bytes(2),
+                smooth: true,
+            },
+            2 => {
+                let estimated = self.scene.passing || !self.random.once_in(3);
+                let flags = self.random.byte() & 0xFE | u8::from(estimated);
+                let energy = self.turning(self.own.energy.into(), 255) as u8;
+                Body {
+                    bytes: vec![flags, energy],
+                    smooth: estimated && self.own.energy().is_some(),
+                }
+            }
+            3 => Body {
+                bytes: vec![self.random.byte(), self.hops],
+                smooth: self.hops < 255,
+            },
+            4 => self.link_total(link.throughput(), link.throughput),
+            5 => self.link_total(link.latency(), link.latency),
+            _ => {
+                let value = self.turning(link.etx.into(), 65535) as u16;
+                Body {
+                    bytes: value.to_be_bytes().to_vec(),
+                    smooth: link.etx().is_some(),
+                }
+            }
+        }
+    }
+
+    fn link_total(&mut self, known: Option<u32>, value: u32) -> Body {
+        let total = self.turning(value, u32::MAX);
+        Body {
+            bytes: total.to_be_bytes().to_vec(),
+            smooth: known.is_some(),
+        }
+    }
+
+    /// A received value: beside the local one, or where the sum reaches the most there is.
+    fn turning(&mut self, local: u32, most: u32) -> u32 {
+        match self.random.below(4) {
+            0 => self.random.near(local, most),
+            1 => self.random.near(most - local, most),
+            2 => self.random.pick(&[0, 1, most - 1, most]),
+            _ => self.random.next() as u32 & most,
+        }
+    }
+
+    /// The body of a recorded metric.
+    pub fn record(&mut self, kind: u8, room: usize) -> Body {
+        let unit = match kind {
+            4 | 5 => 4,
+            6 => 1,
+            _ => 2,
+        };
+        let most = (room.saturating_sub(5) / unit).max(1);
+        let few = self.random.within(1, 3);
+        let subs = match self.random.below(12) {
+            0 => most,
+            _ => few,
+        };
+        if kind == 6 {
+            return self.levels(subs);
+        }
+        Body {
+            bytes: self.bytes(unit * subs),
+            smooth: true,
+        }
+    }
+
+    /// A recorded LQL body of so many sub-objects, often with the link's Val and a counter at an
+    /// edge.
+    pub fn levels(&mut self, subs: usize) -> Body {
+        let mut bytes = vec![self.random.byte()];
+        for _ in 0..subs {
+            let plain = self.random.byte();
+            let val = match self.random.below(2) {
+                0 => self.link.lql & 7,
+                _ => plain >> 5,
+            };
+            let counter = self.random.pick(&[0, 1, 29, 30, 31, 31, 31, plain & 31]);
+            bytes.push(val << 5 | counter);
+        }
+        Body {
+            bytes,
+            smooth: true,
+        }
+    }
+}

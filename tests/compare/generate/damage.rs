@@ -1,0 +1,118 @@
+//! A valid call with one byte or one field damaged.
+
+use super::{pattern, Call};
+use crate::random::Random;
+use crate::reference::data::{Candidate, CANDIDATES, CURRENT_GIVEN};
+
+/// Changes one byte, mostly one of a container's first bytes, or one bit of it.
+pub fn byte(random: &mut Random, call: &mut Call) {
+    let Some(candidate) = some_candidate(random, call) else {
+        return;
+    };
+    if candidate.size == 0 {
+        return;
+    }
+    let place = match random.below(4) {
+        0 => random.below(candidate.size.min(2)),
+        1 => random.below(candidate.size.min(8)),
+        _ => random.below(candidate.size),
+    };
+    let bit = 1 << random.below(8);
+    let any = random.edgy_byte();
+    let byte = &mut call.lent[candidate.start + place];
+    *byte = match random.below(4) {
+        0 => byte.wrapping_add(1),
+        1 => byte.wrapping_sub(1),
+        2 => *byte ^ bit,
+        _ => any,
+    };
+}
+
+fn some_candidate(random: &mut Random, call: &Call) -> Option<Candidate> {
+    match call.given() {
+        [] => None,
+        given => Some(random.pick(given)),
+    }
+}
+
+/// Changes one field: of own numbers, of the call, or of a candidate.
+pub fn field(random: &mut Random, call: &mut Call) {
+    match random.below(12) {
+        0 => call.own.minhop = 0,
+        1 => call.own.nodetype = random.pick(&[4, 5, 128, 255]),
+        2 => call.count = random.pick(&[17, 17, 18, 255, 256, 1 << 16, 1 << 32, usize::MAX]),
+        3 => current(random, call),
+        4 => {
+            let room = random.pick(&[0, 1, 255, 256, 256, 200]);
+            call.out = pattern(random, room);
+        }
+        // two at once, so that the order of refusals counts
+        5 => {
+            current(random, call);
+            call.out.truncate(random.below(300));
+            if random.once_in(2) {
+                call.count = random.within(0, 17);
+            }
+        }
+        6 => {
+            let keep = call.lent.len().saturating_sub(random.within(1, 3));
+            call.lent.truncate(keep);
+        }
+        7 => {
+            let count = call.count.min(CANDIDATES);
+            for candidate in &mut call.candidates[..count] {
+                number(random, candidate);
+            }
+        }
+        kind => {
+            let count = call.count.min(CANDIDATES).max(1);
+            let candidate = &mut call.candidates[random.below(count)];
+            match kind {
+                8 | 9 => number(random, candidate),
+                _ => place(random, candidate, call.lent.len()),
+            }
+        }
+    }
+}
+
+/// A current position that is not among the candidates.
+fn current(random: &mut Random, call: &mut Call) {
+    call.own.flags |= CURRENT_GIVEN;
+    let beyond = call.count.saturating_add(random.below(3));
+    call.own.current = random.pick(&[beyond, beyond, 16, 255, 256, 1 << 32, usize::MAX]);
+}
+
+/// A neighbour's number out of range, or at the edge of it.
+fn number(random: &mut Random, candidate: &mut Candidate) {
+    let neighbour = &mut candidate.neighbour;
+    match random.below(8) {
+        0 => neighbour.sp = random.pick(&[0, 1, 9, 10, 255]),
+        1 => neighbour.rf = random.pick(&[0, 1, 4, 5, 255]),
+        2 => neighbour.sr = random.pick(&[5, 6, 255]),
+        3 => neighbour.lql = random.pick(&[0, 7, 8, 255]),
+        4 => neighbour.nodetype = random.pick(&[3, 4, 255]),
+        5 => neighbour.rank = random.pick(&[0, 65534, 65535]),
+        6 => neighbour.flags ^= 1 << random.below(8),
+        _ => neighbour.rank = random.edgy_word(),
+    }
+}
+
+/// A container's place moved by a byte, to the end of the lent run, or far out of it.
+fn place(random: &mut Random, candidate: &mut Candidate, lent: usize) {
+    let huge = random.edgy_size();
+    let complement = usize::MAX - candidate.start;
+    match random.below(8) {
+        0 => candidate.start = candidate.start.wrapping_sub(1),
+        1 => candidate.start += 1,
+        2 => candidate.size = candidate.size.wrapping_sub(1),
+        3 => candidate.size += 1,
+        4 => {
+            candidate.start = lent + random.below(2);
+            candidate.size = random.below(2);
+        }
+        5 => candidate.start = huge,
+        // the sum at the edge of 64 bits, or one beyond
+        6 => candidate.size = complement.wrapping_add(random.below(3)),
+        _ => candidate.size = huge,
+    }
+}

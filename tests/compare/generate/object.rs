@@ -1,0 +1,173 @@
+//! One well-formed object of a given type and role.
+
+use super::scene::{Scene, Unknown};
+use crate::random::Random;
+use crate::reference::data::{Neighbour, Own};
+
+#[derive(Clone, Copy, PartialEq, Eq)]
+pub enum Role {
+    Constraint,
+    Aggregated,
+    Recorded,
+}
+
+/// A body, and whether all is in order with it: a constraint is met, a metric can be updated.
+pub struct Body {
+    pub bytes: Vec<u8>,
+    pub smooth: bool,
+}
+
+/// Makes the objects of one container.
+pub struct Maker<'a> {
+    pub random: &'a mut Random,
+    pub scene: &'a Scene,
+    pub own: &'a Own,
+    pub link: &'a Neighbour,
+    /// The count of the HP metric, which an HP constraint stands near.
+    pub hops: u8,
+    /// Whether the container is to have an HP metric.
+    pub counted: bool,
+}
+
+impl<'a> Maker<'a> {
+    pub fn new(
+        random: &'a mut Random,
+        scene: &'a Scene,
+        own: &'a Own,
+        link: &'a Neighbour,
+    ) -> Maker<'a> {
+        let plain = random.byte();
+        let hops = random.pick(&[0, 1, 3, 4, 253, 254, 254, 255, plain, plain]);
+        Maker {
+            random,
+            scene,
+            own,
+            link,
+            hops,
+            counted: false,
+        }
+    }
+
+    /// A known type and a role that it can have.
+    pub fn kind_and_role(&mut self) -> (u8, Role) {
+        let kind = self.random.within(1, 7) as u8;
+        let roles: &[Role] = match kind {
+            1 | 3 => &[Role::Constraint, Role::Aggregated],
+            6 => &[Role::Constraint, Role::Recorded],
+            _ => &[Role::Constraint, Role::Aggregated, Role::Recorded],
+        };
+        (kind, self.random.pick(roles))
+    }
+
+    /// A well-formed object of a known type; one that does not fit the room is left out by the
+    /// caller.
+    pub fn known(&mut self, kind: u8, role: Role, room: usize) -> Vec<u8> {
+        let (body, a) = match role {
+            Role::Constraint => (self.limit(kind), self.random.below(8) as u8),
+            Role::Aggregated => (self.total(kind), self.aggregation(kind)),
+            Role::Recorded => (self.record(kind, room), self.random.below(8) as u8),
+        };
+        // where all is to be in order a constraint that is not met is optional, and an aggregated
+        // metric that cannot be updated is left out
+        if role == Role::Aggregated && self.scene.passing && !body.smooth {
+            return Vec::new();
+        }
+        let unmet = role == Role::Constraint && self.scene.fitting && !body.smooth;
+        let optional = unmet || self.random.once_in(4);
+        let mut bytes = body.bytes;
+        if kind <= 3 && role != Role::Recorded && self.scene.tlvs {
+            self.tlvs(&mut bytes, room.saturating_sub(4));
+        }
+        let mut object = self.header(kind, role, optional, a, bytes.len());
+        object.extend(bytes);
+        object
+    }
+
+    /// An object of unknown type.
+    pub fn unknown(&mut self, room: usize) -> Vec<u8> {
+        let plain = self.random.within(8, 255) as u8;
+        let kind = self.random.pick(&[0, 8, 9, 200, 255, plain, plain]);
+        let most = room.saturating_sub(4);
+        let size = match self.random.below(16) {
+            0 => most,
+            1 => 0,
+            _ => self.random.below(9),
+        };
+        let allowed = self.scene.unknown;
+        let (role, optional) = match self.random.below(4) {
+            0 if allowed >= Unknown::Aggregated => (Role::Aggregated, self.random.once_in(2)),
+            1 if allowed >= Unknown::Mandatory => (Role::Constraint, false),
+            2 => (Role::Constraint, true),
+            _ => (Role::Recorded, self.random.once_in(2)),
+        };
+        let a = self.random.below(8) as u8;
+        let mut object = self.header(kind, role, optional, a, size);
+        object.extend(self.bytes(size));
+        object
+    }
+
+    /// Fills the data up to `size` bytes with one harmless object of unknown type, if it fits.
+    pub fn pad(&mut self, data: &mut Vec<u8>, size: usize) {
+        if data.len() + 4 <= size {
+            let body = size - data.len() - 4;
+            let role = self.random.pick(&[Role::Constraint, Role::Recorded]);
+            let kind = self.random.pick(&[0, 8, 255]);
+            data.extend(self.header(kind, role, true, 0, body));
+            data.extend(self.bytes(body));
+        }
+    }
+
+    /// A header, with noise in the reserved bits, P, Prec and what its C and R make ignored. For a
+    /// metric O is such noise.
+    pub fn header(&mut self, kind: u8, role: Role, optional: bool, a: u8, size: usize) -> Vec<u8> {
+        let noise = match self.random.below(3) {
+            0 => self.random.byte() & 0xF8,
+            _ => 0,
+        };
+        let partial = self.random.pick(&[0, 0, 0, 0x04]);
+        let constraint = if role == Role::Constraint { 0x02 } else { 0 };
+        let flags = noise | partial | constraint | u8::from(optional);
+        let recorded = match role {
+            Role::Recorded => 0x80,
+            Role::Aggregated => 0,
+            Role::Constraint => self.random.pick(&[0, 0, 0x80]),
+        };
+        let precedence = self.random.below(16) as u8;
+        vec![kind, flags, recorded | a << 4 | precedence, size as u8]
+    }
+
+    pub fn bytes(&mut self, size: usize) -> Vec<u8> {
+        let mut bytes = vec![0; size];
+        self.random.fill(&mut bytes);
+        bytes
+    }
+
+    /// TLVs behind a body, as far as `most` bytes go.
+    fn tlvs(&mut self, body: &mut Vec<u8>, most: usize) {
+        for _ in 0..self.random.below(4) {
+            let size = match self.random.below(12) {
+                0 => most.saturating_sub(body.len() + 2),
+                1..=4 => 0,
+                _ => self.random.below(7),
+            };
+            if body.len() + 2 + size > most {
+                return;
+            }
+            body.extend([self.random.edgy_byte(), size as u8]);
+            let value = self.bytes(size);
+            body.extend(value);
+        }
+    }
+
+    /// A value of A: one allowed for the type where metrics are to be updated, else any.
+    fn aggregation(&mut self, kind: u8) -> u8 {
+        if !self.scene.passing && self.random.once_in(3) {
+            return self.random.below(8) as u8;
+        }
+        match kind {
+            1 | 2 => self.random.pick(&[1, 2]),
+            3 => 0,
+            _ => self.random.below(3) as u8,
+        }
+    }
+}

@@ -1,0 +1,112 @@
+//! Well-formed containers: objects of every type and usage, with TLVs and noise in ignored bits.
+
+use super::object::{Body, Maker, Role};
+use super::scene::{Length, Scene, Unknown};
+use crate::random::Random;
+use crate::reference::data::{Neighbour, Own};
+
+/// The most data bytes of a container.
+const MOST: usize = 255;
+
+/// A well-formed container, with limits and values near those of the neighbour and the node.
+pub fn container(random: &mut Random, scene: &Scene, own: &Own, link: &Neighbour) -> Vec<u8> {
+    let data = match random.below(40) {
+        0 => Vec::new(),
+        1 => minimal(random, scene),
+        2 => crowded(random),
+        3 => recorded(random, scene, own, link),
+        _ => mixed(random, scene, own, link),
+    };
+    let mut container = vec![2, data.len() as u8];
+    container.extend(data);
+    container
+}
+
+/// Objects of any type and usage in any order, none repeated; a full container has padding.
+fn mixed(random: &mut Random, scene: &Scene, own: &Own, link: &Neighbour) -> Vec<u8> {
+    let objects = match scene.length {
+        Length::Short => random.within(0, 3),
+        Length::Medium => random.within(2, 9),
+        Length::Full => random.within(1, 14),
+    };
+    let hops_at = random.below(2 * objects + 1);
+    let mut maker = Maker::new(random, scene, own, link);
+    maker.counted = hops_at < objects;
+    let mut data = Vec::with_capacity(MOST);
+    let mut used = [false; 16];
+    for step in 0..objects {
+        let unknown = scene.unknown != Unknown::Absent && maker.random.once_in(4);
+        let object = if unknown && step != hops_at {
+            maker.unknown(MOST - data.len())
+        } else {
+            let (kind, role) = match step == hops_at {
+                true => (3, Role::Aggregated),
+                false => maker.kind_and_role(),
+            };
+            let use_mark = usize::from(kind) + 8 * usize::from(role == Role::Constraint);
+            if std::mem::replace(&mut used[use_mark], true) {
+                continue;
+            }
+            maker.known(kind, role, MOST - data.len())
+        };
+        if data.len() + object.len() <= MOST {
+            data.extend(object);
+        }
+    }
+    if scene.length == Length::Full && scene.unknown != Unknown::Absent {
+        let spare = maker.random.pick(&[0, 0, 0, 1, 2, 3, 4, 5, 6, 7, 8]);
+        maker.pad(&mut data, MOST - spare);
+    }
+    data
+}
+
+/// Sixty-odd objects of unknown type and no body: as many as a container holds.
+fn minimal(random: &mut Random, scene: &Scene) -> Vec<u8> {
+    let mut data = Vec::with_capacity(MOST);
+    let objects = random.pick(&[62, 63, 63]);
+    for _ in 0..objects {
+        let kind = random.pick(&[0, 8, 9, 200, 255]);
+        let flags = random.byte() & 0xFC | random.pick(&[0x00, 0x01, 0x03]);
+        let mode = random.byte() | 0x80;
+        data.extend([kind, flags, mode, 0]);
+    }
+    if scene.unknown == Unknown::Mandatory {
+        let place = 4 * random.below(objects);
+        data[place + 1] = data[place + 1] & 0xFC | 0x02;
+    }
+    data
+}
+
+/// One object with as many TLVs as a body holds, or nearly.
+fn crowded(random: &mut Random) -> Vec<u8> {
+    let kind = random.pick(&[1, 2, 3]);
+    let tlvs = random.pick(&[122, 123, 124]);
+    let flags = random.pick(&[0x00, 0x03]);
+    let a = if kind == 3 { 0x00 } else { 0x10 };
+    let mut data = vec![kind, flags, a, 2 + 2 * tlvs, random.byte(), random.byte()];
+    for _ in 0..tlvs {
+        data.extend([random.byte(), 0]);
+    }
+    data
+}
+
+/// One recorded metric that fills the container, or leaves room for one or two more hops.
+fn recorded(random: &mut Random, scene: &Scene, own: &Own, link: &Neighbour) -> Vec<u8> {
+    let kind = random.pick(&[2, 4, 5, 6, 7]);
+    let spare = random.pick(&[0, 0, 1, 2, 3, 4, 5, 8]);
+    let mut maker = Maker::new(random, scene, own, link);
+    let unit = match kind {
+        4 | 5 => 4,
+        6 => 1,
+        _ => 2,
+    };
+    let size = (MOST - 4 - spare) / unit * unit;
+    let mut body = maker.bytes(size);
+    if kind == 6 {
+        let Body { bytes, .. } = maker.levels(size - 1);
+        body = bytes;
+    }
+    let mut data = maker.header(kind, Role::Recorded, true, 0, size);
+    data.extend(body);
+    data
+}

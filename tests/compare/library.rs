@@ -1,0 +1,59 @@
+//! The proved static library, behind safe functions of the reference's form.
+
+use super::reference::data::{Answer, Candidate, Own, CANDIDATES};
+
+#[repr(C)]
+#[derive(Clone, Copy)]
+struct Candidates {
+    at: [Candidate; CANDIDATES],
+}
+
+extern "C" {
+    fn gardhnosk_choose(
+        own: Own,
+        candidates: Candidates,
+        count: usize,
+        lent: *const u8,
+        lent_len: usize,
+        out: *mut u8,
+        out_len: usize,
+    ) -> Answer;
+    fn gardhnosk_list(container: *const u8, len: usize, out: *mut u8, out_len: usize) -> usize;
+}
+
+/// The library's choice. The lent bytes are handed over as mutable, so that the compiler does not
+/// take for granted what is to be tested: that they stay.
+pub fn choose(
+    own: Own,
+    candidates: &[Candidate; CANDIDATES],
+    count: usize,
+    lent: &mut [u8],
+    out: &mut [u8],
+) -> Answer {
+    let candidates = Candidates { at: *candidates };
+    // SAFETY: both pointers are good for the lengths beside them, and the parts do not overlap.
+    unsafe {
+        gardhnosk_choose(
+            own,
+            candidates,
+            count,
+            lent.as_mut_ptr(),
+            lent.len(),
+            out.as_mut_ptr(),
+            out.len(),
+        )
+    }
+}
+
+/// The library's listing of a container.
+pub fn list(container: &mut [u8], out: &mut [u8]) -> usize {
+    // SAFETY: both pointers are good for the lengths beside them, and the parts do not overlap.
+    unsafe {
+        gardhnosk_list(
+            container.as_mut_ptr(),
+            container.len(),
+            out.as_mut_ptr(),
+            out.len(),
+        )
+    }
+}

@@ -1,0 +1,46 @@
+//! Compares the proved static library with a second implementation on random calls, and tries
+//! demand 3 on pairs of the library's calls.
+
+mod arguments;
+mod compare;
+mod cut;
+mod examples;
+mod generate;
+mod guarded;
+mod library;
+mod pairs;
+mod random;
+mod reference;
+mod replay;
+mod report;
+mod run;
+
+use arguments::{Arguments, Wanted};
+use std::process::ExitCode;
+
+fn main() -> ExitCode {
+    let arguments = match Arguments::read(std::env::args()) {
+        Ok(Wanted::Run(arguments)) => arguments,
+        Ok(Wanted::Usage) => {
+            println!("{}", arguments::USAGE);
+            return ExitCode::SUCCESS;
+        }
+        Err(message) => {
+            eprintln!("{message}\n{}", arguments::USAGE);
+            return ExitCode::from(2);
+        }
+    };
+    let failed = examples::failed();
+    for line in &failed {
+        println!("example: {line}");
+    }
+    if !failed.is_empty() {
+        return ExitCode::FAILURE;
+    }
+    println!("document 01's examples hold of both");
+    if arguments.examples_only || run::run(&arguments) {
+        ExitCode::SUCCESS
+    } else {
+        ExitCode::FAILURE
+    }
+}

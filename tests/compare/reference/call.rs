@@ -1,0 +1,98 @@
+//! The whole call: refusals, a verdict on each candidate, the preferred parent, its container.
+
+use super::container::Container;
+use super::data::{Answer, Candidate, Own, CANDIDATES};
+use super::hop::Hop;
+use super::verdict::verdict;
+
+/// The shortest output that is never too short: a container of 255 data bytes.
+const OUTPUT: usize = 257;
+
+/// The verdict number of an unbarred candidate.
+const UNBARRED: u8 = 10;
+
+/// The preferred parent so far.
+struct Parent<'a> {
+    position: usize,
+    rank: u16,
+    container: Container<'a>,
+}
+
+/// Gives each candidate a verdict, picks a parent and writes the container to send on.
+pub fn choose(
+    own: Own,
+    candidates: &[Candidate; CANDIDATES],
+    count: usize,
+    lent: &[u8],
+    out: &mut [u8],
+) -> Answer {
+    let mut answer = Answer::refused(refusal(&own, count, out.len()));
+    if answer.refusal != 0 {
+        return answer;
+    }
+    let Some(parent) = preferred(&own, &candidates[..count], lent, &mut answer) else {
+        return answer;
+    };
+    answer.parent = parent.position as u8;
+    answer.rank = parent.rank;
+    let hop = Hop {
+        own: &own,
+        link: &candidates[parent.position].neighbour,
+    };
+    match hop.pass_on(&parent.container, out) {
+        Ok(size) => answer.size = size,
+        Err(leaf) => answer.leaf = leaf,
+    }
+    answer
+}
+
+/// The first refusal of the whole call, or 0.
+fn refusal(own: &Own, count: usize, room: usize) -> u8 {
+    if own.minhop == 0 || own.nodetype > 3 {
+        1
+    } else if count > CANDIDATES {
+        2
+    } else if own.current().is_some_and(|current| current >= count) {
+        3
+    } else if room < OUTPUT {
+        4
+    } else {
+        0
+    }
+}
+
+/// The unbarred candidate of least rank; a tie goes to the current parent, then to the lower
+/// position. Verdicts, bits and their count go into the answer.
+fn preferred<'a>(
+    own: &Own,
+    candidates: &[Candidate],
+    lent: &'a [u8],
+    answer: &mut Answer,
+) -> Option<Parent<'a>> {
+    let current = own.current();
+    let mut best: Option<Parent> = None;
+    for (position, candidate) in candidates.iter().enumerate() {
+        let (rank, container) = match verdict(own, candidate, lent) {
+            Ok(unbarred) => unbarred,
+            Err(bar) => {
+                answer.verdicts[position] = bar.number;
+                answer.places[position] = bar.place;
+                continue;
+            }
+        };
+        answer.verdicts[position] = UNBARRED;
+        answer.bits |= 1 << position;
+        let better = best
+            .as_ref()
+            .is_none_or(|best| rank < best.rank || rank == best.rank && current == Some(position));
+        if better {
+            best = Some(Parent {
+                position,
+                rank,
+                container,
+            });
+        }
+    }
+    answer.count = answer.bits.count_ones() as u8;
+    best
+}

@@ -1,0 +1,119 @@
+//! The numbers supplied and the answer, laid out as the C interface of the library has them.
+
+pub const CANDIDATES: usize = 16;
+pub const NO_PARENT: u8 = 255;
+pub const NO_RANK: u16 = 65535;
+pub const NO_PLACE: u16 = 65535;
+
+/// Flags of own numbers and of a neighbour; the first two are the bits of the NSA body.
+pub const OVERLOADED: u8 = 0x01;
+pub const AGGREGATOR: u8 = 0x02;
+pub const ENERGY_KNOWN: u8 = 0x04;
+/// Flags of own numbers only.
+pub const LOWEST_GIVEN: u8 = 0x08;
+pub const CURRENT_GIVEN: u8 = 0x10;
+/// Flags of a neighbour only.
+pub const ETX_KNOWN: u8 = 0x08;
+pub const LATENCY_KNOWN: u8 = 0x10;
+pub const THROUGHPUT_KNOWN: u8 = 0x20;
+
+#[repr(C)]
+#[derive(Clone, Copy, Debug, Default, PartialEq, Eq)]
+pub struct Own {
+    pub minhop: u16,
+    pub maxincrease: u16,
+    pub lowest: u16,
+    pub nodetype: u8,
+    pub flags: u8,
+    pub energy: u8,
+    pub current: usize,
+}
+
+impl Own {
+    pub fn lowest(&self) -> Option<u16> {
+        (self.flags & LOWEST_GIVEN != 0).then_some(self.lowest)
+    }
+
+    pub fn current(&self) -> Option<usize> {
+        (self.flags & CURRENT_GIVEN != 0).then_some(self.current)
+    }
+
+    pub fn energy(&self) -> Option<u8> {
+        (self.flags & ENERGY_KNOWN != 0).then_some(self.energy)
+    }
+}
+
+/// What is known of a neighbour and of the link to it.
+#[repr(C)]
+#[derive(Clone, Copy, Debug, Default, PartialEq, Eq)]
+pub struct Neighbour {
+    pub rank: u16,
+    pub sp: u8,
+    pub rf: u8,
+    pub sr: u8,
+    pub nodetype: u8,
+    pub flags: u8,
+    pub energy: u8,
+    pub lql: u8,
+    pub etx: u16,
+    pub latency: u32,
+    pub throughput: u32,
+}
+
+impl Neighbour {
+    pub fn energy(&self) -> Option<u8> {
+        (self.flags & ENERGY_KNOWN != 0).then_some(self.energy)
+    }
+
+    pub fn etx(&self) -> Option<u16> {
+        (self.flags & ETX_KNOWN != 0).then_some(self.etx)
+    }
+
+    pub fn latency(&self) -> Option<u32> {
+        (self.flags & LATENCY_KNOWN != 0).then_some(self.latency)
+    }
+
+    pub fn throughput(&self) -> Option<u32> {
+        (self.flags & THROUGHPUT_KNOWN != 0).then_some(self.throughput)
+    }
+}
+
+/// A neighbour, and the place of its container in the lent run.
+#[repr(C)]
+#[derive(Clone, Copy, Debug, Default, PartialEq, Eq)]
+pub struct Candidate {
+    pub neighbour: Neighbour,
+    pub start: usize,
+    pub size: usize,
+}
+
+#[repr(C)]
+#[derive(Clone, Copy, Debug, PartialEq, Eq)]
+pub struct Answer {
+    pub refusal: u8,
+    pub parent: u8,
+    pub rank: u16,
+    pub verdicts: [u8; CANDIDATES],
+    pub places: [u16; CANDIDATES],
+    pub bits: u16,
+    pub count: u8,
+    pub leaf: u8,
+    pub size: u16,
+}
+
+impl Answer {
+    /// The answer that holds nothing but a refusal's number: no parent, no rank, no verdict.
+    pub fn refused(refusal: u8) -> Answer {
+        Answer {
+            refusal,
+            parent: NO_PARENT,
+            rank: NO_RANK,
+            verdicts: [0; CANDIDATES],
+            places: [NO_PLACE; CANDIDATES],
+            bits: 0,
+            count: 0,
+            leaf: 0,
+            size: 0,
+        }
+    }
+}

@@ -1,0 +1,16 @@
+//! A second implementation of document 01, written from its text and the RFCs alone: it chooses a
+//! preferred parent, writes the container for the next hop, and lists a container. It allocates
+//! nothing and depends on nothing outside this folder.
+
+mod call;
+mod constraint;
+pub mod container;
+pub mod data;
+mod hop;
+mod listing;
+mod object;
+pub mod rank;
+mod verdict;
+
+pub use call::choose;
+pub use listing::{list, LISTING_ROOM};

@@ -1,0 +1,56 @@
+//! The verdict on one candidate: its container and resulting rank, or the first bar.
+
+use super::constraint::met;
+use super::container::{Bar, Container};
+use super::data::{Candidate, Neighbour, Own};
+use super::rank::allowed;
+
+/// Bars 11 to 21 in document 01's order.
+pub fn verdict<'a>(
+    own: &Own,
+    candidate: &Candidate,
+    lent: &'a [u8],
+) -> Result<(u16, Container<'a>), Bar> {
+    let neighbour = &candidate.neighbour;
+    if !in_range(neighbour) {
+        return Err(Bar::whole(11));
+    }
+    let container = Container::read(part(candidate, lent).ok_or(Bar::whole(12))?)?;
+    if let Some(bar) = first_unmet(&container, neighbour) {
+        return Err(bar);
+    }
+    match allowed(own, neighbour) {
+        Ok(rank) => Ok((rank, container)),
+        Err(number) => Err(Bar::whole(number)),
+    }
+}
+
+fn in_range(neighbour: &Neighbour) -> bool {
+    (1..=9).contains(&neighbour.sp)
+        && (1..=4).contains(&neighbour.rf)
+        && neighbour.sr <= 5
+        && neighbour.lql <= 7
+        && neighbour.nodetype <= 3
+}
+
+/// The candidate's part of the lent run, if it lies inside; a sum beyond 64 bits does not.
+fn part<'a>(candidate: &Candidate, lent: &'a [u8]) -> Option<&'a [u8]> {
+    let end = candidate.start.checked_add(candidate.size)?;
+    lent.get(candidate.start..end)
+}
+
+/// The first mandatory constraint of unknown type (18), or known and not met (19).
+fn first_unmet(container: &Container, neighbour: &Neighbour) -> Option<Bar> {
+    for (place, object) in container.objects().enumerate() {
+        if !object.mandatory() {
+            continue;
+        }
+        if !object.known() {
+            return Some(Bar::at(18, place));
+        }
+        if !met(&object, neighbour, container.hops) {
+            return Some(Bar::at(19, place));
+        }
+    }
+    None
+}

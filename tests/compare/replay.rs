@@ -1,0 +1,99 @@
+//! A difference is printed so that it can be replayed by a command, or by hand.
+
+use super::compare::{Difference, Given, ListingDifference};
+use super::generate::Call;
+use super::pairs::{Pair, Wrong};
+
+/// Which call of which seed is tried, and the name that the program was started by.
+pub struct Place {
+    pub program: String,
+    pub seed: u64,
+    pub call: u64,
+}
+
+impl Place {
+    fn print(&self, what: &str) {
+        println!();
+        println!("call {} of seed {}: {what}", self.call, self.seed);
+        let Place {
+            program,
+            seed,
+            call,
+        } = self;
+        println!("repeat: {program} --seed {seed} --from {call} --count 1");
+    }
+
+    pub fn choice(&self, call: &Call, difference: &Difference) {
+        self.print(&difference.what);
+        print_call(call);
+        print_given("expected", &difference.expected);
+        print_given("given", &difference.given);
+    }
+
+    pub fn listing(&self, difference: &ListingDifference) {
+        self.print(difference.what);
+        println!("container: {}", hex(&difference.container));
+        println!("room: {}", difference.given.out.len());
+        for (name, listed) in [
+            ("expected", &difference.expected),
+            ("given", &difference.given),
+        ] {
+            println!("{name}: size {}, text:", listed.size);
+            print!("{}", listed.text());
+            println!("{name} output: {}", hex(&listed.out));
+        }
+    }
+
+    pub fn pair(&self, wrong: &Wrong) {
+        match wrong {
+            Wrong::Call(call, difference) => {
+                self.choice(call, difference);
+                println!("(a call made for demand 3)");
+            }
+            Wrong::Sentence(sentence, pair) => {
+                self.print(&format!("demand 3 does not hold: {sentence}"));
+                let Pair {
+                    first,
+                    second,
+                    given,
+                } = &**pair;
+                println!("the first call:");
+                print_call(first);
+                print_given("given", &given[0]);
+                println!("the second call:");
+                print_call(second);
+                print_given("given", &given[1]);
+            }
+        }
+    }
+}
+
+fn print_call(call: &Call) {
+    println!("{:?}", call.own);
+    println!("count: {}", call.count);
+    for (index, candidate) in call.given().iter().enumerate() {
+        println!("candidate {index}: {:?}", candidate.neighbour);
+        let (start, size) = (candidate.start, candidate.size);
+        let container = match call.container(candidate) {
+            Some(container) => hex(container),
+            None => "not inside".to_string(),
+        };
+        println!("  start {start}, size {size}: {container}");
+    }
+    println!("lent, {} bytes: {}", call.lent.len(), hex(&call.lent));
+    println!(
+        "output before, {} bytes: {}",
+        call.out.len(),
+        hex(&call.out)
+    );
+}
+
+fn print_given(name: &str, given: &Given) {
+    println!("{name}: {:?}", given.answer);
+    println!("{name} output: {}", hex(&given.out));
+}
+
+fn hex(bytes: &[u8]) -> String {
+    let pairs: Vec<String> = bytes.iter().map(|byte| format!("{byte:02X}")).collect();
+    pairs.join(" ")
+}

@@ -1,0 +1,154 @@
+//! How often each number was given, and whether that is often enough.
+
+use super::compare::Listed;
+use super::pairs::Sort;
+use super::reference::data::Answer;
+
+/// Every number is to be given so often, and every sort of pair to be tried so often.
+const LEAST: u64 = 100;
+const LEAST_PAIRS: u64 = 1000;
+
+/// What is asked of a run only if it has so many calls.
+pub const ASKED_FROM: u64 = 100_000;
+
+const REFUSALS: [u8; 5] = [0, 1, 2, 3, 4];
+const VERDICTS: [u8; 13] = [0, 10, 11, 12, 13, 14, 15, 16, 17, 18, 19, 20, 21];
+const LEAVES: [u8; 6] = [0, 31, 32, 33, 34, 35];
+const LISTINGS: [u8; 6] = [0, 13, 14, 15, 16, 17];
+
+/// How often each sort of pair was tried.
+#[derive(Default)]
+struct Pairs {
+    all: u64,
+    mandatory: u64,
+    freed: u64,
+    passed: u64,
+    passed_unknown: u64,
+    passed_tlvs: u64,
+    passed_cut: u64,
+}
+
+pub struct Report {
+    calls: u64,
+    refusals: [u64; 256],
+    verdicts: [u64; 256],
+    leaves: [u64; 256],
+    listings: [u64; 256],
+    without_room: u64,
+    pairs: Pairs,
+}
+
+impl Report {
+    pub fn new() -> Report {
+        Report {
+            calls: 0,
+            refusals: [0; 256],
+            verdicts: [0; 256],
+            leaves: [0; 256],
+            listings: [0; 256],
+            without_room: 0,
+            pairs: Pairs::default(),
+        }
+    }
+
+    /// Notes an answer of the library. A leaf number counts where there is a parent, a verdict
+    /// where the call is not refused.
+    pub fn choice(&mut self, answer: &Answer) {
+        self.calls += 1;
+        self.refusals[usize::from(answer.refusal)] += 1;
+        if answer.refusal == 0 {
+            for verdict in answer.verdicts {
+                self.verdicts[usize::from(verdict)] += 1;
+            }
+        }
+        if answer.parent != 255 {
+            self.leaves[usize::from(answer.leaf)] += 1;
+        }
+    }
+
+    /// Notes a listing of the library: the number that it was refused with, or 0.
+    pub fn listing(&mut self, listed: &Listed) {
+        if listed.size == usize::MAX {
+            self.without_room += 1;
+            return;
+        }
+        let number = match listed.text().strip_prefix("refused ") {
+            Some(number) => number.trim_end().parse().unwrap_or(255),
+            None => 0,
+        };
+        self.listings[number] += 1;
+    }
+
+    pub fn pair(&mut self, sort: &Sort) {
+        self.pairs.all += 1;
+        self.pairs.mandatory += u64::from(sort.mandatory);
+        self.pairs.freed += u64::from(sort.freed);
+        self.pairs.passed += u64::from(sort.passed);
+        self.pairs.passed_unknown += u64::from(sort.passed_unknown);
+        self.pairs.passed_tlvs += u64::from(sort.passed_tlvs);
+        self.pairs.passed_cut += u64::from(sort.passed_cut);
+    }
+
+    /// Prints what was given how often.
+    pub fn print(&self) {
+        println!("calls: {}", self.calls);
+        print_counts("refusal", &REFUSALS, &self.refusals);
+        print_counts("verdict", &VERDICTS, &self.verdicts);
+        print_counts("leaf", &LEAVES, &self.leaves);
+        print_counts("listing refused", &LISTINGS, &self.listings);
+        println!("listing without room: {}", self.without_room);
+        for (name, count) in self.sorts() {
+            println!("{name}: {count}");
+        }
+    }
+
+    fn sorts(&self) -> [(&'static str, u64); 7] {
+        let pairs = &self.pairs;
+        [
+            ("pairs of demand 3", pairs.all),
+            ("with an unknown mandatory constraint", pairs.mandatory),
+            ("with a candidate barred for that alone", pairs.freed),
+            ("passing a container on", pairs.passed),
+            ("passing unknown objects on", pairs.passed_unknown),
+            ("passing TLVs on", pairs.passed_tlvs),
+            ("equal once cut, with something to cut", pairs.passed_cut),
+        ]
+    }
+
+    /// What was given or tried too seldom, a line each; a run of few calls is not asked.
+    pub fn too_seldom(&self) -> Vec<String> {
+        let mut lines = Vec::new();
+        let counted = [
+            ("refusal", &REFUSALS[..], &self.refusals),
+            ("verdict", &VERDICTS[..], &self.verdicts),
+            ("leaf", &LEAVES[..], &self.leaves),
+            ("listing refused", &LISTINGS[..], &self.listings),
+        ];
+        for (name, numbers, counts) in counted {
+            for &number in numbers {
+                if counts[usize::from(number)] < LEAST {
+                    lines.push(format!(
+                        "{name} {number} was given fewer than {LEAST} times"
+                    ));
+                }
+            }
+        }
+        if self.without_room < LEAST {
+            lines.push(format!("fewer than {LEAST} listings had too little room"));
+        }
+        for (name, count) in self.sorts() {
+            if count < LEAST_PAIRS {
+                lines.push(format!("{name}: fewer than {LEAST_PAIRS}"));
+            }
+        }
+        lines
+    }
+}
+
+fn print_counts(name: &str, numbers: &[u8], counts: &[u64; 256]) {
+    let counted: Vec<String> = numbers
+        .iter()
+        .map(|&number| format!("{number}: {}", counts[usize::from(number)]))
+        .collect();
+    println!("{name}  {}", counted.join("  "));
+}

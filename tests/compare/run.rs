@@ -1,0 +1,110 @@
+//! A run of many calls.
+
+use super::arguments::Arguments;
+use super::generate::{self, Call};
+use super::random::Random;
+use super::reference::LISTING_ROOM;
+use super::replay::Place;
+use super::report::{Report, ASKED_FROM};
+use super::{compare, pairs};
+
+/// A run stops after so many differences.
+const MOST_DIFFERENCES: usize = 5;
+
+/// What the random streams of a call are for; each use has its own.
+const CALL: u64 = 0;
+const GUARDS: u64 = 1;
+const LISTING: u64 = 2;
+const PAIR: u64 = 3;
+
+/// Says which call was tried, should the program panic in it.
+struct Trying<'a>(&'a Place);
+
+impl Drop for Trying<'_> {
+    fn drop(&mut self) {
+        if std::thread::panicking() {
+            eprintln!("in call {} of seed {}", self.0.call, self.0.seed);
+        }
+    }
+}
+
+/// Tries the calls that the arguments name, prints what was given, and tells whether all is well.
+pub fn run(arguments: &Arguments) -> bool {
+    let mut report = Report::new();
+    let mut differences = 0;
+    let mut place = Place {
+        program: arguments.program.clone(),
+        seed: arguments.seed,
+        call: 0,
+    };
+    for call in arguments.from..arguments.from + arguments.count {
+        place.call = call;
+        differences += one(&place, &mut report);
+        if differences >= MOST_DIFFERENCES {
+            println!("\nstopped after {differences} differences");
+            break;
+        }
+    }
+    report.print();
+    println!("differences: {differences}");
+    if arguments.count < ASKED_FROM {
+        println!("too few calls to ask how often each number is given");
+        return differences == 0;
+    }
+    let too_seldom = report.too_seldom();
+    for line in &too_seldom {
+        println!("{line}");
+    }
+    differences == 0 && too_seldom.is_empty()
+}
+
+/// Tries one call, the listings of its containers and its pair; gives how many differences were
+/// found.
+fn one(place: &Place, report: &mut Report) -> usize {
+    let _trying = Trying(place);
+    let stream = |usage| Random::of(place.seed, place.call, usage);
+    let call = generate::call(&mut stream(CALL));
+    let mut differences = listings(&mut stream(LISTING), place, &call, report);
+    let given = match compare::choice(&mut stream(GUARDS), &call) {
+        Ok(given) => given,
+        Err(difference) => {
+            place.choice(&call, &difference);
+            return differences + 1;
+        }
+    };
+    report.choice(&given.answer);
+    match pairs::check(&mut stream(PAIR), &call, &given) {
+        Ok(Some(sort)) => report.pair(&sort),
+        Ok(None) => {}
+        Err(wrong) => {
+            place.pair(&wrong);
+            differences += 1;
+        }
+    }
+    differences
+}
+
+/// Lists the call's containers, and one part of the lent run that need not be a container.
+fn listings(random: &mut Random, place: &Place, call: &Call, report: &mut Report) -> usize {
+    let mut differences = 0;
+    let room = match random.below(64) {
+        0 => random.below(LISTING_ROOM),
+        1 => LISTING_ROOM - 1,
+        2 => LISTING_ROOM + random.below(200),
+        _ => LISTING_ROOM,
+    };
+    let pattern = generate::pattern(random, room);
+    let start = random.within(0, call.lent.len());
+    let end = random.within(start, call.lent.len());
+    let within = call.given().iter().filter_map(|one| call.container(one));
+    for container in within.chain([&call.lent[start..end]]) {
+        match compare::listing(random, container, &pattern) {
+            Ok(listed) => report.listing(&listed),
+            Err(difference) => {
+                place.listing(&difference);
+                differences += 1;
+            }
+        }
+    }
+    differences
+}
