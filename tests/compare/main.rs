@@ -37,7 +37,7 @@ fn main() -> ExitCode {
     if !failed.is_empty() {
         return ExitCode::FAILURE;
     }
-    println!("document 01's examples hold of both");
+    println!("the examples hold of the library and of the second implementation");
     if arguments.examples_only || run::run(&arguments) {
         ExitCode::SUCCESS
     } else {

@@ -205,10 +205,10 @@ impl Sentences<'_> {
         let second = passed_on(self.second).ok_or("only the first passes a container on")?;
         let cut = cut::cut(first).ok_or("the container passed on does not read")?;
         sort.passed_cut = cut != first;
-        match cut == second {
-            true => Ok(()),
-            false => Err("the first's container, once cut, is not the second's".to_string()),
+        if cut != second {
+            return Err("the first's container, once cut, is not the second's".to_string());
         }
+        Ok(())
     }
 
     /// "Whenever the first passes a container on, the unknown objects and TLVs keep in it the

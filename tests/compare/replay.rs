@@ -71,8 +71,13 @@ impl Place {
 fn print_call(call: &Call) {
     println!("{:?}", call.own);
     println!("count: {}", call.count);
-    for (index, candidate) in call.given().iter().enumerate() {
-        println!("candidate {index}: {:?}", candidate.neighbour);
+    for (index, candidate) in call.candidates.iter().enumerate() {
+        let past = if index < call.count {
+            ""
+        } else {
+            " (past the count)"
+        };
+        println!("candidate {index}{past}: {:?}", candidate.neighbour);
         let (start, size) = (candidate.start, candidate.size);
         let container = match call.container(candidate) {
             Some(container) => hex(container),

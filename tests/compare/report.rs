@@ -6,10 +6,10 @@ use super::reference::data::Answer;
 
 /// Every number is to be given so often, and every sort of pair to be tried so often.
 const LEAST: u64 = 100;
-const LEAST_PAIRS: u64 = 1000;
+const LEAST_PAIRS: u64 = 5000;
 
 /// What is asked of a run only if it has so many calls.
-pub const ASKED_FROM: u64 = 100_000;
+pub const ASKED_FROM: u64 = 200_000;
 
 const REFUSALS: [u8; 5] = [0, 1, 2, 3, 4];
 const VERDICTS: [u8; 13] = [0, 10, 11, 12, 13, 14, 15, 16, 17, 18, 19, 20, 21];

@@ -1,6 +1,7 @@
 //! A run of many calls.
 
 use super::arguments::Arguments;
+use super::compare::ListingDifference;
 use super::generate::{self, Call};
 use super::random::Random;
 use super::reference::LISTING_ROOM;
@@ -39,54 +40,62 @@ pub fn run(arguments: &Arguments) -> bool {
     };
     for call in arguments.from..arguments.from + arguments.count {
         place.call = call;
-        differences += one(&place, &mut report);
-        if differences >= MOST_DIFFERENCES {
+        if !one(&place, &mut report) {
+            differences += 1;
+        }
+        if differences == MOST_DIFFERENCES {
             println!("\nstopped after {differences} differences");
-            break;
+            return false;
         }
     }
     report.print();
     println!("differences: {differences}");
-    if arguments.count < ASKED_FROM {
-        println!("too few calls to ask how often each number is given");
-        return differences == 0;
-    }
-    let too_seldom = report.too_seldom();
+    let too_seldom = if arguments.count < ASKED_FROM {
+        Vec::new()
+    } else {
+        report.too_seldom()
+    };
     for line in &too_seldom {
         println!("{line}");
     }
     differences == 0 && too_seldom.is_empty()
 }
 
-/// Tries one call, the listings of its containers and its pair; gives how many differences were
-/// found.
-fn one(place: &Place, report: &mut Report) -> usize {
+/// Tries one call, the listings of its containers and its pair, up to the first difference, which
+/// is printed; tells whether there was none.
+fn one(place: &Place, report: &mut Report) -> bool {
     let _trying = Trying(place);
     let stream = |usage| Random::of(place.seed, place.call, usage);
     let call = generate::call(&mut stream(CALL));
-    let mut differences = listings(&mut stream(LISTING), place, &call, report);
     let given = match compare::choice(&mut stream(GUARDS), &call) {
         Ok(given) => given,
         Err(difference) => {
             place.choice(&call, &difference);
-            return differences + 1;
+            return false;
         }
     };
     report.choice(&given.answer);
+    if let Err(difference) = listings(&mut stream(LISTING), &call, report) {
+        place.listing(&difference);
+        return false;
+    }
     match pairs::check(&mut stream(PAIR), &call, &given) {
         Ok(Some(sort)) => report.pair(&sort),
         Ok(None) => {}
         Err(wrong) => {
             place.pair(&wrong);
-            differences += 1;
+            return false;
         }
     }
-    differences
+    true
 }
 
 /// Lists the call's containers, and one part of the lent run that need not be a container.
-fn listings(random: &mut Random, place: &Place, call: &Call, report: &mut Report) -> usize {
-    let mut differences = 0;
+fn listings(
+    random: &mut Random,
+    call: &Call,
+    report: &mut Report,
+) -> Result<(), Box<ListingDifference>> {
     let room = match random.below(64) {
         0 => random.below(LISTING_ROOM),
         1 => LISTING_ROOM - 1,
@@ -98,13 +107,7 @@ fn listings(random: &mut Random, place: &Place, call: &Call, report: &mut Report
     let end = random.within(start, call.lent.len());
     let within = call.given().iter().filter_map(|one| call.container(one));
     for container in within.chain([&call.lent[start..end]]) {
-        match compare::listing(random, container, &pattern) {
-            Ok(listed) => report.listing(&listed),
-            Err(difference) => {
-                place.listing(&difference);
-                differences += 1;
-            }
-        }
+        report.listing(&compare::listing(random, container, &pattern)?);
     }
-    differences
+    Ok(())
 }

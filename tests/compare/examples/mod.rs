@@ -1,8 +1,9 @@
 //! Document 01's examples, and one case at least for each of its numbers, tried on the reference
-//! and on the library.
+//! and on the library; and the words of demand 3, as the checks of pairs read them.
 
 mod bars;
 mod choices;
+mod cuts;
 mod hops;
 mod leaves;
 mod listings;
@@ -48,7 +49,7 @@ struct Trial {
     failed: Vec<String>,
 }
 
-/// The examples that do not hold, of the reference and of the library.
+/// The examples that do not hold, of the reference, of the library and of the cut.
 pub fn failed() -> Vec<String> {
     let mut trials = [
         Trial {
@@ -75,7 +76,8 @@ pub fn failed() -> Vec<String> {
         choices::hold(trial);
         listings::hold(trial);
     }
-    trials.map(|trial| trial.failed).concat()
+    let [reference, library] = trials.map(|trial| trial.failed);
+    [reference, library, cuts::failed()].concat()
 }
 
 impl Trial {

@@ -2,6 +2,15 @@
 
 use super::object::{Body, Maker};
 
+/// The size of a sub-object in a recorded metric.
+pub fn unit(kind: u8) -> usize {
+    match kind {
+        4 | 5 => 4,
+        6 => 1,
+        _ => 2,
+    }
+}
+
 impl Maker<'_> {
     /// The body of a constraint, its limit at or beside the neighbour's value.
     pub fn limit(&mut self, kind: u8) -> Body {
@@ -54,18 +63,20 @@ impl Maker<'_> {
             return self.random.near(value, most);
         }
         let distance = apart + self.random.below(2) as u32;
-        match least {
-            true => value.saturating_sub(distance),
-            false => value.saturating_add(distance).min(most),
+        if least {
+            value.saturating_sub(distance)
+        } else {
+            value.saturating_add(distance).min(most)
         }
     }
 
     fn state_asked(&mut self) -> Body {
         let asked = self.random.byte();
         let missing = asked & 0x02 & !self.link.flags | asked & 0x01 & self.link.flags;
-        let asked = match self.scene.fitting {
-            true => asked & !missing,
-            false => asked,
+        let asked = if self.scene.fitting {
+            asked & !missing
+        } else {
+            asked
         };
         Body {
             bytes: vec![self.random.byte(), asked],
@@ -76,9 +87,10 @@ impl Maker<'_> {
     /// An NE constraint on the neighbour's type, or on another, at or beside its energy.
     fn energy_asked(&mut self) -> Body {
         let same = self.random.once_in(2);
-        let t = match same {
-            true => self.link.nodetype,
-            false => self.link.nodetype ^ self.random.within(1, 3) as u8,
+        let t = if same {
+            self.link.nodetype
+        } else {
+            self.link.nodetype ^ self.random.within(1, 3) as u8
         };
         let included = self.random.once_in(2);
         let estimated = !self.random.once_in(3);
@@ -151,11 +163,7 @@ impl Maker<'_> {
 
     /// The body of a recorded metric.
     pub fn record(&mut self, kind: u8, room: usize) -> Body {
-        let unit = match kind {
-            4 | 5 => 4,
-            6 => 1,
-            _ => 2,
-        };
+        let unit = unit(kind);
         let most = (room.saturating_sub(5) / unit).max(1);
         let few = self.random.within(1, 3);
         let subs = match self.random.below(12) {

@@ -65,7 +65,7 @@ pub fn field(random: &mut Random, call: &mut Call) {
             }
         }
         kind => {
-            let count = call.count.min(CANDIDATES).max(1);
+            let count = call.count.clamp(1, CANDIDATES);
             let candidate = &mut call.candidates[random.below(count)];
             match kind {
                 8 | 9 => number(random, candidate),

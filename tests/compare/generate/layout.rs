@@ -12,9 +12,10 @@ pub fn lay(random: &mut Random, containers: &[Vec<u8>], candidates: &mut [Candid
     let backwards = random.once_in(2);
     for step in 0..containers.len() {
         let turned = (first + step) % containers.len();
-        let index = match backwards {
-            true => containers.len() - 1 - turned,
-            false => turned,
+        let index = if backwards {
+            containers.len() - 1 - turned
+        } else {
+            turned
         };
         gap(random, &mut lent);
         candidates[index].start = lent.len();

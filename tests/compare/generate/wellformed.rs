@@ -1,6 +1,7 @@
 //! Well-formed containers: objects of every type and usage, with TLVs and noise in ignored bits.
 
-use super::object::{Body, Maker, Role};
+use super::body::unit;
+use super::object::{Maker, Role};
 use super::scene::{Length, Scene, Unknown};
 use crate::random::Random;
 use crate::reference::data::{Neighbour, Own};
@@ -39,9 +40,10 @@ fn mixed(random: &mut Random, scene: &Scene, own: &Own, link: &Neighbour) -> Vec
         let object = if unknown && step != hops_at {
             maker.unknown(MOST - data.len())
         } else {
-            let (kind, role) = match step == hops_at {
-                true => (3, Role::Aggregated),
-                false => maker.kind_and_role(),
+            let (kind, role) = if step == hops_at {
+                (3, Role::Aggregated)
+            } else {
+                maker.kind_and_role()
             };
             let use_mark = usize::from(kind) + 8 * usize::from(role == Role::Constraint);
             if std::mem::replace(&mut used[use_mark], true) {
@@ -95,17 +97,13 @@ fn recorded(random: &mut Random, scene: &Scene, own: &Own, link: &Neighbour) -> 
     let kind = random.pick(&[2, 4, 5, 6, 7]);
     let spare = random.pick(&[0, 0, 1, 2, 3, 4, 5, 8]);
     let mut maker = Maker::new(random, scene, own, link);
-    let unit = match kind {
-        4 | 5 => 4,
-        6 => 1,
-        _ => 2,
-    };
+    let unit = unit(kind);
     let size = (MOST - 4 - spare) / unit * unit;
-    let mut body = maker.bytes(size);
-    if kind == 6 {
-        let Body { bytes, .. } = maker.levels(size - 1);
-        body = bytes;
-    }
+    let body = if kind == 6 {
+        maker.levels(size - 1).bytes
+    } else {
+        maker.bytes(size)
+    };
     let mut data = maker.header(kind, Role::Recorded, true, 0, size);
     data.extend(body);
     data
