@@ -4,7 +4,7 @@ use std::env::Args;
 
 pub const USAGE: &str = "usage: compare [--seed S] [--count N] [--from K] | --examples | --help
   tries document 01's examples, then N calls of seed S, the first of them number K
-  (S = 6551, N = 400000, K = 0 unless given); --examples tries the examples alone
+  (S = 6551, N = 300000, K = 0 unless given); --examples tries the examples alone
   from 200000 calls on, every number and every sort of pair is to be there often enough
 exit status: 0 all agrees; 1 a difference, or something there too seldom; 2 bad arguments";
 
@@ -26,7 +26,7 @@ impl Arguments {
         let mut arguments = Arguments {
             program: words.next().unwrap_or_else(|| "compare".to_string()),
             seed: 6551,
-            count: 400_000,
+            count: 300_000,
             from: 0,
             examples_only: false,
         };
