@@ -1,0 +1,82 @@
+// What each number that a caller can receive means, in words.
+ghost use mathlib.Core.Path.{_≡_};
+ghost use Prim.Native.Nat.{_<_, _≤_};
+ghost use lib.ListN.{length, getD};
+ghost use Rattle.meaning.specs.Meaning.{told, toldIn};
+ghost use Rattle.meaning.specs.Table.{wordsBefore};
+
+// Bytes that hold the words for any number.
+pub const MEANING_ROOM: usize = 100;
+
+// The words for 0, for 1 and so on, end to end; a number without a meaning has none.
+const WORDS: [u8; 1249] = *b"\
+    nothing to report: not refused, no leaf answer, or no candidate at this position\
+    MinHopRankIncrease is 0, or the node's own type is above 3\
+    more than 16 candidates\
+    the current parent's position is not below the number of candidates\
+    the output is shorter than 257 bytes\
+    unbarred\
+    Sp is not 1 to 9, Rf is not 1 to 4, Sr is above 5, LQL is above 7, or the type is above 3\
+    the container is not inside the lent bytes\
+    the container is under 2 bytes, does not start with 2, or its data length is wrong\
+    an object's header or body runs past the end of the container\
+    an object of known type has a body that its type does not allow, or a TLV overruns\
+    an object of known type stood before, as constraint or as metric both times\
+    an NSA or HP metric is recorded, or an LQL metric is not\
+    a mandatory constraint of unknown type\
+    a mandatory constraint is not met\
+    the advertised rank is 65535, or the resulting rank is 65535 or more\
+    the resulting rank is above the lowest rank advertised plus DAGMaxRankIncrease\
+    an aggregated metric of unknown type\
+    a metric is aggregated in a way that its type does not allow\
+    the local value of an aggregated metric is unknown, or energy came without an estimate\
+    the hop count is 255 already\
+    the container to send on would have more than 255 bytes of data\
+    ";
+
+// Where the words for each number begin, ten numbers to a line.
+const STARTS: [[u16; 10]; 4] = [
+    [0, 80, 138, 161, 228, 264, 264, 264, 264, 264],
+    [264, 272, 361, 403, 485, 546, 628, 703, 759, 797],
+    [830, 898, 976, 976, 976, 976, 976, 976, 976, 976],
+    [976, 976, 1012, 1072, 1158, 1186, 1249, 1249, 1249, 1249],
+];
+
+// Where the words for a number begin among all words.
+fn start_of(number: usize) -> usize
+    requires { ⌜ number ≤ 36 ⌝ }
+    ensures { λ r. ⌜ r ≡ length (wordsBefore number) ⌝ }
+{
+    STARTS[number / 10][number % 10] as usize
+}
+
+// A byte of all words.
+fn byte_at(index: usize) -> u8
+    requires { ⌜ index < length (wordsBefore 36) ⌝ }
+    ensures { λ r. ⌜ r ≡ getD (wordsBefore 36) index 0 ⌝ }
+{
+    WORDS[index]
+}
+
+// Writes what a number means at the start of an output; answers the length of the words: 0 for a number without a meaning, and
+// for an output under MEANING_ROOM bytes.
+pub fn put_meaning(number: u8, out: &mut [u8]) -> usize
+    ensures { λ r. ⌜ r ≡ told number (length (now (out .entry))) ⌝ }
+    ensures written { λ r. ⌜ now (out .exit) ≡ toldIn number (now (out .entry)) ⌝ }
+{
+    if out.len() < MEANING_ROOM {
+        return 0;
+    }
+    if 35 < number {
+        return 0;
+    }
+    let start = start_of(number as usize);
+    let end = start_of(number as usize + 1);
+    let size = end - start;
+    let mut i = 0;
+    while i < size {
+        out[i] = byte_at(start + i);
+        i += 1;
+    }
+    size
+}
