@@ -5,6 +5,7 @@ ghost use Rattle.model.specs.Choice.{call};
 ghost use Rattle.choice.specs.Given.{given};
 ghost use Rattle.choice.specs.Demand3.{Returned};
 ghost use Rattle.listing.specs.Listed.{listed, listedIn};
+ghost use Rattle.meaning.specs.Meaning.{told, toldIn};
 ghost use Rattle.gardhnosk.specs.Texts.{sizeOf};
 use listing::Listed;
 use model::Answer;
@@ -51,4 +52,13 @@ pub extern "C" fn gardhnosk_list(container: &[u8], out: &mut [u8]) -> usize
     ensures written { λ r. ⌜ now (out .exit) ≡ listedIn (now (container .entry)) (now (out .entry)) ⌝ }
 {
     size_of(listing::list(container, out))
+}
+
+// Writes what a number means, in words; answers their length, 0 where it has no meaning or the output is too short.
+#[no_mangle]
+pub extern "C" fn gardhnosk_meaning(number: u8, out: &mut [u8]) -> usize
+    ensures { λ r. ⌜ r ≡ told number (length (now (out .entry))) ⌝ }
+    ensures written { λ r. ⌜ now (out .exit) ≡ toldIn number (now (out .entry)) ⌝ }
+{
+    meaning::put_meaning(number, out)
 }
