@@ -149,13 +149,13 @@ copied-next {n} {start} {size} {i} {output} {left} p l =
     (byte-inside n i (p .listed) (omega arith) (p .begins), omega (arith, p .room, copied-length p), omega arith)
 
 -- one byte more
-pub copied-more : {n start size i b : ℕ} {output left : List ℕ} → Copied n start size output i left → i < size → b ≡ getD (wordsBefore 36) (start + i) 0
-    → Copied n start size output (i + 1) (set left i b)
-copied-more {n} {start} {size} {i} {b} {output} {left} p l e =
+pub copied-more : {n start size i : ℕ} {output left words : List ℕ} → Copied n start size output i left → i < size → words ≡ wordsBefore 36
+    → Copied n start size output (i + 1) (set left i (getD words (start + i) 0))
+copied-more {n} {start} {size} {i} {output} {left} {words} p l e =
     let m = meaning-short n (p .listed) in
     let w = p .whole in
     let inside : i < length (meaning n) = omega arith in
-    let same : b ≡ getD (meaning n) i 0 = e ∙ byte-same n i (p .listed) inside (p .begins) in
+    let same : getD words (start + i) 0 ≡ getD (meaning n) i 0 = ap (λ w. getD w (start + i) 0) e ∙ byte-same n i (p .listed) inside (p .begins) in
     let z : 0 + i ≡ i = zero-add i in
     let step : set (paste output 0 (meaning n) i) (0 + i) (getD (meaning n) i 0) ≡ paste output 0 (meaning n) (suc i) =
     paste-suc output 0 (meaning n) i 0 (omega (arith, p .room)) inside in

@@ -1,7 +1,7 @@
 // What each number that a caller can receive means, in words.
 ghost use mathlib.Core.Path.{_≡_};
-ghost use Prim.Native.Nat.{_<_, _≤_};
-ghost use lib.ListN.{length, getD};
+ghost use Prim.Native.Nat.{_≤_};
+ghost use lib.ListN.{length};
 ghost use Rattle.meaning.specs.Meaning.{told, toldIn};
 ghost use Rattle.meaning.specs.Table.{wordsBefore};
 
@@ -50,12 +50,11 @@ fn start_of(number: usize) -> usize
     STARTS[number / 10][number % 10] as usize
 }
 
-// A byte of all words.
-fn byte_at(index: usize) -> u8
-    requires { ⌜ index < length (wordsBefore 36) ⌝ }
-    ensures { λ r. ⌜ r ≡ getD (wordsBefore 36) index 0 ⌝ }
+// All words: one copy for a call, where an index into the constant would make one each time.
+fn all_words() -> [u8; 1249]
+    ensures { λ r. ⌜ r ≡ wordsBefore 36 ⌝ }
 {
-    WORDS[index]
+    WORDS
 }
 
 // Writes what a number means at the start of an output; answers the length of the words: 0 for a number without a meaning, and
@@ -73,9 +72,10 @@ pub fn put_meaning(number: u8, out: &mut [u8]) -> usize
     let start = start_of(number as usize);
     let end = start_of(number as usize + 1);
     let size = end - start;
+    let words = all_words();
     let mut i = 0;
     while i < size {
-        out[i] = byte_at(start + i);
+        out[i] = words[start + i];
         i += 1;
     }
     size

@@ -10,10 +10,10 @@ use Rattle.meaning.proofs.put_meaning.Statement.{statement}
 use Rattle.meaning.proofs.put_meaning.Tie as tie
 
 abbrev Inv-loop : tie.InvT-loop
-Inv-loop number out₀ start end size i₀ out i = Copied number start size out₀ i out
+Inv-loop number out₀ start end size words i₀ out i = Copied number start size out₀ i out
 
 abbrev μ-loop : tie.MeasureT-loop
-μ-loop number out₀ start end size i₀ out i = size - i
+μ-loop number out₀ start end size words i₀ out i = size - i
 
 returns : tie.Need-returns Inv-loop μ-loop
 unfolding told toldIn
@@ -34,26 +34,29 @@ start-of-requires-2 c κs = search needs
 sub-size : tie.Need-sub-size Inv-loop μ-loop
 sub-size c = size-of _ (c .before .start-of .ensures) (c .start-of2 .ensures) .0
 
+all-words-requires : tie.Need-all-words-requires Inv-loop μ-loop
+all-words-requires c κs = search needs
+
 loop-holds : tie.Need-loop-holds Inv-loop μ-loop
-loop-holds c = copied-none _ _ _ _ (omega arith) (c .before .before .before .if1 .left) (c .before .start-of .ensures) (c .start-of2 .ensures)
+loop-holds c = copied-none _ _ _ _ (omega arith) (c .before .before .before .before .if1 .left) (c .before .before .start-of .ensures) (c .before .start-of2 .ensures)
 
-add-byte-at : tie.Need-add-byte-at Inv-loop μ-loop
-add-byte-at c = omega (arith, copied-next (c .before .loop .inv) (c .loop-test .taken), all-length)
+add-out : tie.Need-add-out Inv-loop μ-loop
+add-out c = omega (arith, copied-next (c .before .loop .inv) (c .loop-test .taken), all-length)
 
-byte-at-requires : tie.Need-byte-at-requires Inv-loop μ-loop
-byte-at-requires c κs = copied-next (c .before .loop .inv) (c .loop-test .taken) .0
+array-read-out : tie.Need-array-read-out Inv-loop μ-loop
+array-read-out c = omega (arith, copied-next (c .before .loop .inv) (c .loop-test .taken), all-length)
 
 slice-write-out : tie.Need-slice-write-out Inv-loop μ-loop
-slice-write-out c = copied-next (c .before .before .loop .inv) (c .before .loop-test .taken) .1
+slice-write-out c = copied-next (c .before .loop .inv) (c .loop-test .taken) .1
 
 add-i : tie.Need-add-i Inv-loop μ-loop
-add-i c = omega (arith, copied-next (c .before .before .loop .inv) (c .before .loop-test .taken))
+add-i c = omega (arith, copied-next (c .before .loop .inv) (c .loop-test .taken))
 
 loop-less : tie.Need-loop-less Inv-loop μ-loop
 loop-less c = omega arith
 
 loop-again : tie.Need-loop-again Inv-loop μ-loop
-loop-again c = copied-more (c .before .before .loop .inv) (c .before .loop-test .taken) (c .byte-at .ensures)
+loop-again c = copied-more (c .before .loop .inv) (c .loop-test .taken) (c .before .before .all-words .ensures)
 
 same-length : tie.Need-same-length Inv-loop μ-loop
 same-length c = copied-length (c .before .loop .inv)
@@ -73,9 +76,10 @@ put-meaning-spec =
     add-start-of
     start-of-requires-2
     sub-size
+    all-words-requires
     loop-holds
-    add-byte-at
-    byte-at-requires
+    add-out
+    array-read-out
     slice-write-out
     add-i
     loop-less
