@@ -1,0 +1,153 @@
+/*
+ * Gardhnosk: routing metrics for RPL meshes. A node hands over what it knows of up to 16 neighbours, each with the DAG Metric
+ * Container (RFC 6551) received from it, and receives a verdict on each, its preferred parent, its rank (RFC 6552) and the
+ * container to send on. For C99 and C++11 on x86-64; link libgardhnosk.a.
+ *
+ * Every call answers, whatever the numbers and the bytes. Nothing is kept or allocated: calls from several threads need no lock.
+ * A pointer is valid for the size beside it; where that is 0 nothing is read or written, and it may be null. An output overlaps
+ * no input. Stack, with what a call is passed, as measured: under 7 KB for gardhnosk_choose, 5 KB for gardhnosk_list and 2 KB
+ * for gardhnosk_meaning.
+ */
+#ifndef GARDHNOSK_H
+#define GARDHNOSK_H
+
+#include <stddef.h>
+#include <stdint.h>
+
+#ifdef __cplusplus
+extern "C" {
+#endif
+
+/* The numbers that a call can answer. gardhnosk_meaning gives the words beside them. */
+enum {
+    GARDHNOSK_NONE = 0, /* nothing to report: not refused, no leaf answer, or no candidate at this position */
+
+    /* refusals of a whole call: the first that holds */
+    GARDHNOSK_REFUSAL_OWN = 1,     /* MinHopRankIncrease is 0, or the node's own type is above 3 */
+    GARDHNOSK_REFUSAL_COUNT = 2,   /* more than 16 candidates */
+    GARDHNOSK_REFUSAL_CURRENT = 3, /* the current parent's position is not below the number of candidates */
+    GARDHNOSK_REFUSAL_OUTPUT = 4,  /* the output is shorter than 257 bytes */
+
+    /* verdicts on a candidate: it can be the parent, or it is barred */
+    GARDHNOSK_UNBARRED = 10,     /* unbarred */
+    GARDHNOSK_BAR_NUMBERS = 11,  /* Sp is not 1 to 9, Rf is not 1 to 4, Sr is above 5, LQL is above 7, or the type is above 3 */
+    GARDHNOSK_BAR_OUTSIDE = 12,  /* the container is not inside the lent bytes */
+    GARDHNOSK_BAR_FRAME = 13,    /* the container is under 2 bytes, does not start with 2, or its data length is wrong */
+    GARDHNOSK_BAR_OBJECT = 14,   /* an object's header or body runs past the end of the container */
+    GARDHNOSK_BAR_BODY = 15,     /* an object of known type has a body that its type does not allow, or a TLV overruns */
+    GARDHNOSK_BAR_REPEAT = 16,   /* an object of known type stood before, as constraint or as metric both times */
+    GARDHNOSK_BAR_RECORDED = 17, /* an NSA or HP metric is recorded, or an LQL metric is not */
+    GARDHNOSK_BAR_UNKNOWN = 18,  /* a mandatory constraint of unknown type */
+    GARDHNOSK_BAR_UNMET = 19,    /* a mandatory constraint is not met */
+    GARDHNOSK_BAR_RANK = 20,     /* the advertised rank is 65535, or the resulting rank is 65535 or more */
+    GARDHNOSK_BAR_INCREASE = 21, /* the resulting rank is above the lowest rank advertised plus DAGMaxRankIncrease */
+
+    /* leaf answers: the node joins as a leaf, and sends no container on */
+    GARDHNOSK_LEAF_UNKNOWN = 31,   /* an aggregated metric of unknown type */
+    GARDHNOSK_LEAF_AGGREGATE = 32, /* a metric is aggregated in a way that its type does not allow */
+    GARDHNOSK_LEAF_VALUE = 33,     /* the local value of an aggregated metric is unknown, or energy came without an estimate */
+    GARDHNOSK_LEAF_HOPS = 34,      /* the hop count is 255 already */
+    GARDHNOSK_LEAF_LENGTH = 35     /* the container to send on would have more than 255 bytes of data */
+};
+
+enum {
+    GARDHNOSK_CANDIDATES = 16,    /* the most candidates of a call */
+    GARDHNOSK_NO_PARENT = 255,    /* in place of a parent's position */
+    GARDHNOSK_NO_RANK = 65535,    /* in place of a rank: the infinite rank */
+    GARDHNOSK_NO_PLACE = 65535,   /* in place of an object's index */
+    GARDHNOSK_OUTPUT_ROOM = 257,  /* bytes that hold any container */
+    GARDHNOSK_TEXT_ROOM = 1100,   /* bytes that hold the text of any container */
+    GARDHNOSK_MEANING_ROOM = 100  /* bytes that hold the words for any number */
+};
+
+/* gardhnosk_list's answer for an output under GARDHNOSK_TEXT_ROOM bytes */
+#define GARDHNOSK_NO_TEXT ((size_t)-1)
+
+/* Bits of flags. Other bits are ignored; a number whose bit is not set is ignored too. */
+enum {
+    GARDHNOSK_OVERLOADED = 0x01,       /* own, neighbour: the node is overloaded */
+    GARDHNOSK_AGGREGATOR = 0x02,       /* own, neighbour: the node aggregates */
+    GARDHNOSK_ENERGY_KNOWN = 0x04,     /* own, neighbour: energy is known */
+    GARDHNOSK_LOWEST_GIVEN = 0x08,     /* own: a rank was advertised before */
+    GARDHNOSK_CURRENT_GIVEN = 0x10,    /* own: there is a current parent */
+    GARDHNOSK_ETX_KNOWN = 0x08,        /* neighbour: etx is known */
+    GARDHNOSK_LATENCY_KNOWN = 0x10,    /* neighbour: latency is known */
+    GARDHNOSK_THROUGHPUT_KNOWN = 0x20  /* neighbour: throughput is known */
+};
+
+/* The node's own numbers. */
+typedef struct {
+    uint16_t minhop;      /* MinHopRankIncrease, not 0 */
+    uint16_t maxincrease; /* DAGMaxRankIncrease; 0: no limit */
+    uint16_t lowest;      /* the lowest rank advertised so far, with GARDHNOSK_LOWEST_GIVEN */
+    uint8_t nodetype;     /* 0 mains, 1 battery, 2 scavenger, 3 (RFC 6551, NE) */
+    uint8_t flags;        /* GARDHNOSK_OVERLOADED to GARDHNOSK_CURRENT_GIVEN */
+    uint8_t energy;       /* remaining energy as NE's E_E, 0 to 255, with GARDHNOSK_ENERGY_KNOWN */
+    size_t current;       /* the current parent's position among the candidates, with GARDHNOSK_CURRENT_GIVEN */
+} gardhnosk_own;
+
+/* What is known of a neighbour and of the link to it. */
+typedef struct {
+    uint16_t rank;       /* the rank that it advertised */
+    uint8_t sp;          /* step of rank, 1 to 9 (RFC 6552) */
+    uint8_t rf;          /* rank factor, 1 to 4 */
+    uint8_t sr;          /* stretch of rank, 0 to 5 */
+    uint8_t nodetype;    /* as own's, 0 to 3 */
+    uint8_t flags;       /* OVERLOADED, AGGREGATOR, ENERGY_KNOWN, ETX_KNOWN, LATENCY_KNOWN, THROUGHPUT_KNOWN */
+    uint8_t energy;      /* as own's, with GARDHNOSK_ENERGY_KNOWN */
+    uint8_t lql;         /* the link's quality level, 1 best to 7; 0 unknown */
+    uint16_t etx;        /* the link's ETX times 128, with GARDHNOSK_ETX_KNOWN */
+    uint32_t latency;    /* the link's latency in microseconds, with GARDHNOSK_LATENCY_KNOWN */
+    uint32_t throughput; /* the link's throughput in bytes per second, with GARDHNOSK_THROUGHPUT_KNOWN */
+} gardhnosk_neighbour;
+
+/* A candidate: a neighbour, and where its container stands in the lent bytes. Containers may overlap. */
+typedef struct {
+    gardhnosk_neighbour neighbour;
+    size_t start; /* the index of the container's first byte */
+    size_t size;  /* its length in bytes */
+} gardhnosk_candidate;
+
+/* The candidates of a call, at the positions 0 to 15; those from the call's count on are ignored. */
+typedef struct {
+    gardhnosk_candidate at[GARDHNOSK_CANDIDATES];
+} gardhnosk_candidates;
+
+/* The answer of gardhnosk_choose. A refused call has a refusal, and nothing else. */
+typedef struct {
+    uint8_t refusal;                          /* GARDHNOSK_NONE, or a refusal */
+    uint8_t parent;                           /* the preferred parent's position, or GARDHNOSK_NO_PARENT */
+    uint16_t rank;                            /* the node's rank, or GARDHNOSK_NO_RANK */
+    uint8_t verdicts[GARDHNOSK_CANDIDATES];   /* by position: GARDHNOSK_UNBARRED, a bar, or GARDHNOSK_NONE from the count on */
+    uint16_t places[GARDHNOSK_CANDIDATES];    /* the index, from 0, of the object that bars by 15 to 19, or GARDHNOSK_NO_PLACE */
+    uint16_t bits;                            /* bit i is 1 where the candidate at position i is unbarred */
+    uint8_t count;                            /* how many are unbarred */
+    uint8_t leaf;                             /* GARDHNOSK_NONE, or a leaf answer */
+    uint16_t size;                            /* the length of the container in the output; 0: none */
+} gardhnosk_answer;
+
+/*
+ * Chooses a preferred parent among the first count candidates, and writes the container to send on to the start of out, of at
+ * least GARDHNOSK_OUTPUT_ROOM bytes. lent holds the candidates' containers. The bytes of out behind answer.size stay as they
+ * were; where answer.size is 0, all do.
+ */
+gardhnosk_answer gardhnosk_choose(gardhnosk_own own, gardhnosk_candidates candidates, size_t count, const uint8_t *lent,
+                                  size_t lent_size, uint8_t *out, size_t out_size);
+
+/*
+ * Writes the text that lists a container to the start of out, of at least GARDHNOSK_TEXT_ROOM bytes: a line of type, C, O, R, A,
+ * Prec and length for each object, or "refused N". Answers the length of the text, which no 0 ends, or GARDHNOSK_NO_TEXT.
+ */
+size_t gardhnosk_list(const uint8_t *container, size_t size, uint8_t *out, size_t out_size);
+
+/*
+ * Writes what a number means, in words, to the start of out, of at least GARDHNOSK_MEANING_ROOM bytes. Answers the length of the
+ * words, which no 0 ends: 0 for a number without a meaning, or for a shorter output, which stays as it was.
+ */
+size_t gardhnosk_meaning(uint8_t number, uint8_t *out, size_t out_size);
+
+#ifdef __cplusplus
+}
+#endif
+
+#endif
