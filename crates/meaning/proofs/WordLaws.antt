@@ -186,3 +186,18 @@ none-told n output h = rw (meaning-none n h) (go (ltb (length output) meaningRoo
     go : (b : Bool) → (_≡_ {A = ℕ} 0 (cond b 0 0)) × (output ≡ cond b output output)
     go true = (refl, refl)
     go false = (refl, refl)
+
+-- ---- for callers
+
+-- what is put into an output lies in it
+pub told-inside : (n room : ℕ) → told n room ≤ room
+unfolding told
+told-inside n room = go (ltb room meaningRoom) refl
+  where
+    short-or-none : (b : Bool) → ltb 35 n ≡ b → length (meaning n) ≤ meaningRoom
+    short-or-none true q = rw (meaning-none n (ltb-true 35 n q)) (omega arith)
+    short-or-none false q = meaning-short n (let l = ltb-false 35 n q in omega arith)
+
+    go : (b : Bool) → ltb room meaningRoom ≡ b → cond b 0 (length (meaning n)) ≤ room
+    go true q = omega arith
+    go false q = let l = ltb-false room meaningRoom q in let s = short-or-none (ltb 35 n) refl in omega arith
