@@ -1,0 +1,132 @@
+//! The inputs of the benchmark: calls whose first candidate becomes the parent and whose container is passed on.
+
+use super::reference::data::{Candidate, Neighbour, Own, CANDIDATES};
+
+pub struct Input {
+    pub own: Own,
+    pub candidates: [Candidate; CANDIDATES],
+    pub count: usize,
+    pub lent: Vec<u8>,
+}
+
+/// A container's data, object by object.
+struct Data(Vec<u8>);
+
+impl Data {
+    fn object(&mut self, mctype: u8, flags: u8, mode: u8, body: &[u8]) {
+        self.0.extend([mctype, flags, mode, body.len() as u8]);
+        self.0.extend(body);
+    }
+}
+
+const CONSTRAINT: u8 = 0x02;
+const OPTIONAL: u8 = 0x03;
+const RECORDED: u8 = 0x80;
+/// All of a neighbour's numbers are known.
+const ALL_KNOWN: u8 = 0x3C;
+
+/// Three to five known objects, some 30 bytes.
+fn typical(position: usize) -> Vec<u8> {
+    let mut data = Data(Vec::new());
+    data.object(7, 0, 0, &[1, 0xC9]);
+    data.object(5, 0, 0, &[0, 0, 1, 0]);
+    if position % 2 == 0 {
+        data.object(3, 0, 0, &[0, 3]);
+    }
+    data.object(2, CONSTRAINT, 0, &[0x0A, 0]);
+    if position % 3 == 0 {
+        data.object(6, 0, RECORDED, &[0, 0x45, 0x23]);
+    }
+    data.0
+}
+
+/// Recorded metrics up to a size; the link's numbers are unknown, so that they stay as long as they are.
+fn recorded(size: usize) -> Vec<u8> {
+    let mut data = Data(Vec::new());
+    let part = ((size - 16) / 16 * 4).max(4);
+    let series: Vec<u8> = (0..part).map(|k| (k * 7) as u8).collect();
+    for mctype in [7, 5, 4] {
+        data.object(mctype, 0, RECORDED, &series);
+    }
+    let mut levels = vec![0x7F; size.saturating_sub(data.0.len() + 4).max(2)];
+    levels[0] = 0;
+    *levels.last_mut().unwrap() = 0x41;
+    data.object(6, 0, RECORDED, &levels);
+    data.0
+}
+
+/// Recorded objects of unknown type without a body.
+fn minimal_objects(size: usize) -> Vec<u8> {
+    let mut data = Data(Vec::new());
+    (0..size / 4).for_each(|_| data.object(200, 0, RECORDED, &[]));
+    data.0
+}
+
+/// TLVs without a value in the body of an NSA constraint.
+fn minimal_tlvs(size: usize) -> Vec<u8> {
+    let mut data = Data(Vec::new());
+    data.object(1, CONSTRAINT, 0, &vec![0; size.saturating_sub(4) / 2 * 2]);
+    data.0
+}
+
+/// Mostly objects of unknown type, and TLVs.
+fn unknown_heavy() -> Vec<u8> {
+    let body: Vec<u8> = (0..20).collect();
+    let mut data = Data(Vec::new());
+    (100..106).for_each(|mctype| data.object(mctype, 0, RECORDED, &body));
+    (150..154).for_each(|mctype| data.object(mctype, OPTIONAL, 0, &body[..6]));
+    data.object(7, 0, 0, &[1, 0xC9]);
+    data.object(1, CONSTRAINT, 0, &[0; 30]);
+    data.0
+}
+
+/// A call whose candidates have such containers, one behind another, at rising ranks.
+fn call(count: usize, flags: u8, data_of: impl Fn(usize) -> Vec<u8>) -> Input {
+    let mut input = Input {
+        own: Own {
+            minhop: 256,
+            nodetype: 1,
+            flags: 0x04,
+            energy: 100,
+            ..Own::default()
+        },
+        candidates: [Candidate::default(); CANDIDATES],
+        count,
+        lent: Vec::new(),
+    };
+    for position in 0..count {
+        let data = data_of(position);
+        input.candidates[position] = Candidate {
+            neighbour: Neighbour {
+                rank: 512 + 256 * position as u16,
+                sp: 3,
+                rf: 1,
+                nodetype: 1,
+                flags,
+                energy: 100,
+                lql: 2,
+                etx: 128,
+                latency: 1000,
+                throughput: 50_000,
+                ..Neighbour::default()
+            },
+            start: input.lent.len(),
+            size: data.len() + 2,
+        };
+        input.lent.extend([2, data.len() as u8]);
+        input.lent.extend(data);
+    }
+    input
+}
+
+/// The input of a name, its containers of so many data bytes at most where their size is free.
+pub fn named(name: &str, size: usize) -> Option<Input> {
+    match name {
+        "typical" => Some(call(6, ALL_KNOWN, typical)),
+        "full" => Some(call(16, 0x04, |_| recorded(size))),
+        "objects" => Some(call(16, ALL_KNOWN, |_| minimal_objects(size))),
+        "tlvs" => Some(call(16, ALL_KNOWN, |_| minimal_tlvs(size))),
+        "unknown" => Some(call(16, ALL_KNOWN, |_| unknown_heavy())),
+        _ => None,
+    }
+}
