@@ -1,0 +1,36 @@
+use Prim.Native.Nat.{_-_, _≤_}
+use borrow.Author.Needs.{needs}
+use Rattle.choose.proofs.names.look_up.Statement.{statement}
+use Rattle.choose.proofs.names.look_up.Tie as tie
+
+abbrev Inv-loop : tie.InvT-loop
+Inv-loop word k₀ k = k ≤ 23
+
+abbrev μ-loop : tie.MeasureT-loop
+μ-loop word k₀ k = 23 - k
+
+loop-holds : tie.Need-loop-holds Inv-loop μ-loop
+loop-holds c = search needs
+
+is-requires : tie.Need-is-requires Inv-loop μ-loop
+is-requires c κs = search needs
+
+returns : tie.Need-returns Inv-loop μ-loop
+returns c = search needs
+
+add-k : tie.Need-add-k Inv-loop μ-loop
+add-k c = search needs
+
+loop-less : tie.Need-loop-less Inv-loop μ-loop
+loop-less c = search needs
+
+loop-again : tie.Need-loop-again Inv-loop μ-loop
+loop-again c = search needs
+
+returns-2 : tie.Need-returns-2 Inv-loop μ-loop
+returns-2 c = search needs
+
+pub look-up-spec : {M : Type 1} → statement M
+look-up-spec =
+    tie.close
+    (tie.spec Inv-loop μ-loop loop-holds is-requires returns add-k loop-less loop-again returns-2)

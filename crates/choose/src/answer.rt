@@ -1,0 +1,125 @@
+// The call that the rows give, and its answer.
+ghost use Prim.Native.Nat.{_≤_, _<_};
+ghost use lib.ListN.{length};
+ghost use Rattle.choose.specs.Sound.{Sound};
+use crate::names;
+use crate::report;
+use crate::settings;
+use crate::state::State;
+use model::Candidate;
+use model::Neighbour;
+use model::Own;
+use model::Rank;
+
+// A flag's bit where its word was given.
+fn flag(given: u64, k: usize, bit: u8) -> u8
+    requires { ⌜ k < 21 ⌝ }
+{
+    if settings::has(given, k) {
+        return bit;
+    }
+    0
+}
+
+fn own_flags(given: u64) -> u8 {
+    flag(given, names::OVERLOADED, 0x01)
+        | flag(given, names::AGGREGATOR, 0x02)
+        | flag(given, names::ENERGY, 0x04)
+        | flag(given, names::LOWEST, 0x08)
+        | flag(given, names::CURRENT, 0x10)
+}
+
+fn neighbour_flags(given: u64) -> u8 {
+    flag(given, names::OVERLOADED, 0x01)
+        | flag(given, names::AGGREGATOR, 0x02)
+        | flag(given, names::ENERGY, 0x04)
+        | flag(given, names::ETX, 0x08)
+        | flag(given, names::LATENCY, 0x10)
+        | flag(given, names::THROUGHPUT, 0x20)
+}
+
+// The numbers of a row are within their limits, so that a remainder is the number.
+fn own_of(rows: &[u64; 306]) -> Own {
+    Own {
+        minhop: (rows[names::MINHOP] % 65536) as u16,
+        maxincrease: (rows[names::MAXINCREASE] % 65536) as u16,
+        lowest: Rank((rows[names::LOWEST] % 65536) as u16),
+        nodetype: (rows[names::TYPE] % 256) as u8,
+        flags: own_flags(rows[settings::GIVEN]),
+        energy: (rows[names::ENERGY] % 256) as u8,
+        current: rows[names::CURRENT] as usize,
+    }
+}
+
+// The neighbour whose row begins at an index.
+fn neighbour_of(rows: &[u64; 306], at: usize) -> Neighbour
+    requires { ⌜ at ≤ 288 ⌝ }
+{
+    Neighbour {
+        rank: Rank((rows[at + names::RANK] % 65536) as u16),
+        sp: (rows[at + names::SP] % 256) as u8,
+        rf: (rows[at + names::RF] % 256) as u8,
+        sr: (rows[at + names::SR] % 256) as u8,
+        nodetype: (rows[at + names::TYPE] % 256) as u8,
+        flags: neighbour_flags(rows[at + settings::GIVEN]),
+        energy: (rows[at + names::ENERGY] % 256) as u8,
+        lql: (rows[at + names::LQL] % 256) as u8,
+        etx: (rows[at + names::ETX] % 65536) as u16,
+        latency: (rows[at + names::LATENCY] % 4294967296) as u32,
+        throughput: (rows[at + names::THROUGHPUT] % 4294967296) as u32,
+    }
+}
+
+fn candidate_of(rows: &[u64; 306], at: usize) -> Candidate
+    requires { ⌜ at ≤ 288 ⌝ }
+{
+    Candidate {
+        neighbour: neighbour_of(rows, at),
+        start: rows[at + names::START] as usize,
+        size: rows[at + names::SIZE] as usize,
+    }
+}
+
+// The candidates, and the first of the rows behind them at the positions that are not used.
+fn candidates_of(rows: &[u64; 306], count: usize) -> [Candidate; 16]
+    requires { ⌜ count ≤ 16 ⌝ }
+{
+    let mut list = [candidate_of(rows, 0); 16];
+    let mut i = 0;
+    while i < count {
+        list[i] = candidate_of(rows, i * 18 + 18);
+        i += 1;
+    }
+    list
+}
+
+// Calls with an output of the room that the rows give at the start of sent, and writes the answer.
+fn run_in(s: State, rows: &[u64; 306], lent: &[u8], sent: &mut [u8], out: &mut [u8; 65536]) -> State
+    requires { ⌜ Sound s ⌝ }
+    requires { ⌜ s .used ≤ length (now lent) ⌝ }
+    requires { ⌜ 1000 ≤ length (now sent) ⌝ }
+    ensures { λ r. ⌜ Sound r ⌝ }
+{
+    let used = s.used;
+    let room = (rows[names::ROOM] % 1001) as usize;
+    let list = candidates_of(rows, s.count);
+    let answer = choice::call(
+        own_of(rows),
+        list,
+        s.count,
+        &lent[..used],
+        &mut sent[..room],
+    );
+    let mut t = s;
+    t.held = report::call(out, s.held, s.calls, answer, s.count, sent);
+    t
+}
+
+// Calls, and writes the answer.
+pub(crate) fn run(s: State, rows: &[u64; 306], lent: &[u8; 65536], out: &mut [u8; 65536]) -> State
+    requires { ⌜ Sound s ⌝ }
+    ensures { λ r. ⌜ Sound r ⌝ }
+{
+    let mut sent = io::buffer();
+    run_in(s, rows, lent, &mut sent, out)
+}

@@ -1,0 +1,308 @@
+// What a word gives a call or a candidate. The row of `call` and one of each candidate stand in a table of 17 rows, 18 numbers
+// to a row: the number behind each of the first 17 words, then the bits of the words that were given.
+ghost use Prim.Native.Nat.{_+_, _≤_, _<_};
+ghost use lib.ListN.{length};
+ghost use Rattle.choose.specs.Sound.{Sound, Holds};
+use crate::names;
+use crate::say::Fault;
+use crate::state;
+use crate::state::State;
+use words::Decimal;
+use words::HexByte;
+
+// The limits of minhop, maxincrease, rank, sp, rf, sr, type, lql, lowest, energy, current, room, etx, latency, throughput, start
+// and size.
+const LIMITS: [u64; 17] = [
+    65535,
+    65535,
+    65535,
+    255,
+    255,
+    255,
+    255,
+    255,
+    65535,
+    255,
+    state::MOST,
+    1000,
+    65535,
+    4294967295,
+    4294967295,
+    state::MOST,
+    state::MOST,
+];
+
+// The words that can stand behind `call`: all of the first 21 but rank, sp, rf, sr, lql, etx to container.
+const OF_CALL: [bool; 21] = [
+    true,
+    true,
+    false,
+    false,
+    false,
+    false,
+    true,
+    false,
+    true,
+    true,
+    true,
+    true,
+    false,
+    false,
+    false,
+    false,
+    false,
+    false,
+    true,
+    true,
+    true,
+];
+
+// The words that can stand behind `candidate`: all of the first 21 but minhop, maxincrease, lowest, current, room and lent.
+const OF_CANDIDATE: [bool; 21] = [
+    false,
+    false,
+    true,
+    true,
+    true,
+    true,
+    true,
+    true,
+    false,
+    true,
+    false,
+    false,
+    true,
+    true,
+    true,
+    true,
+    true,
+    true,
+    false,
+    true,
+    true,
+];
+
+// The column of a row for the words that were given.
+pub const GIVEN: usize = 17;
+
+// A place on a line, and what is known there.
+pub struct Next {
+    pub at: usize,
+    pub state: State,
+}
+
+// The bytes on a line are in the lent run, which has so many then; or they are no such bytes; or too many.
+enum HexRun {
+    Lent(usize),
+    Bad,
+    TooMany,
+}
+
+// Whether a word is among those that were given.
+pub(crate) fn has(given: u64, k: usize) -> bool
+    requires { ⌜ k < 21 ⌝ }
+{
+    (given >> k) % 2 == 1
+}
+
+// With a word that is given now.
+fn with(s: State, k: usize) -> State
+    requires { ⌜ Sound s ⌝ }
+    requires { ⌜ k < 21 ⌝ }
+    ensures { λ r. ⌜ Sound r ⌝ }
+{
+    let mut t = s;
+    t.given = s.given | (1 << k);
+    t
+}
+
+// Whether a word tells the container's place in one way, and another was given in the other way.
+fn both_ways(given: u64, k: usize) -> bool {
+    if k == names::CONTAINER {
+        return has(given, names::START) | has(given, names::SIZE);
+    }
+    ((k == names::START) | (k == names::SIZE)) & has(given, names::CONTAINER)
+}
+
+// Fails where a word does not belong to its place, or was given already.
+fn admit(s: State, out: &mut [u8; 65536], k: usize) -> State
+    requires { ⌜ k < 21 ⌝ }
+    requires { ⌜ Sound s ⌝ }
+    ensures { λ r. ⌜ Sound r ⌝ }
+{
+    if (s.place == state::OWN) & !OF_CALL[k] {
+        return state::fail(s, out, Fault::OfCandidate, k);
+    }
+    if (s.place == state::CANDIDATE) & !OF_CANDIDATE[k] {
+        return state::fail(s, out, Fault::OfCall, k);
+    }
+    if has(s.given, k) {
+        return state::fail(s, out, Fault::Twice, k);
+    }
+    if both_ways(s.given, k) {
+        return state::fail(s, out, Fault::Together, names::NONE);
+    }
+    s
+}
+
+// The number behind a word, which ends at an index.
+fn number(
+    line: &[u8],
+    end: usize,
+    k: usize,
+    s: State,
+    rows: &mut [u64; 306],
+    out: &mut [u8; 65536],
+) -> Next
+    requires { ⌜ end ≤ length (now line) ⌝ }
+    requires { ⌜ k < 17 ⌝ }
+    requires { ⌜ Sound s ⌝ }
+    ensures { λ r. ⌜ (end ≤ r .at) × ((r .at ≤ length (now (line .entry))) × Sound (r .state)) ⌝ }
+{
+    let from = words::word_start(line, end);
+    let to = words::word_end(line, from);
+    match words::number(&line[from..to]) {
+        Decimal::Value(n) => {
+            if LIMITS[k] < n {
+                let failed = state::fail(s, out, Fault::TooLarge(LIMITS[k]), k);
+                return Next {
+                    at: end,
+                    state: failed,
+                };
+            }
+            rows[s.count * 18 + k] = n;
+            let given = with(s, k);
+            Next {
+                at: to,
+                state: given,
+            }
+        }
+        Decimal::TooLarge => {
+            let failed = state::fail(s, out, Fault::TooLarge(LIMITS[k]), k);
+            Next {
+                at: end,
+                state: failed,
+            }
+        }
+        Decimal::NotANumber => {
+            let failed = state::fail(s, out, Fault::NoNumber, k);
+            Next {
+                at: end,
+                state: failed,
+            }
+        }
+    }
+}
+
+// Puts the bytes of a line from an index on behind those of the lent run.
+fn lend(line: &[u8], from: usize, used: usize, lent: &mut [u8; 65536]) -> HexRun
+    requires { ⌜ from ≤ length (now line) ⌝ }
+    requires { ⌜ used ≤ 65536 ⌝ }
+    ensures { λ r. ⌜ Holds used r ⌝ }
+{
+    let mut n = used;
+    let mut at = words::word_start(line, from);
+    while at < line.len() {
+        if line[at] == b'#' {
+            return HexRun::Lent(n);
+        }
+        if line.len() - at < 2 {
+            return HexRun::Bad;
+        }
+        match words::byte(line[at], line[at + 1]) {
+            HexByte::Byte(b) => {
+                if n == 65536 {
+                    return HexRun::TooMany;
+                }
+                lent[n] = b;
+                n += 1;
+            }
+            HexByte::NotHex => {
+                return HexRun::Bad;
+            }
+        }
+        at = words::word_start(line, at + 2);
+    }
+    HexRun::Lent(n)
+}
+
+// The bytes behind `container` or `lent`, which ends at an index: the rest of the line.
+fn bytes(
+    line: &[u8],
+    end: usize,
+    k: usize,
+    s: State,
+    rows: &mut [u64; 306],
+    lent: &mut [u8; 65536],
+    out: &mut [u8; 65536],
+) -> Next
+    requires { ⌜ end ≤ length (now line) ⌝ }
+    requires { ⌜ k < 21 ⌝ }
+    requires { ⌜ Sound s ⌝ }
+    ensures { λ r. ⌜ (end ≤ r .at) × ((r .at ≤ length (now (line .entry))) × Sound (r .state)) ⌝ }
+{
+    match lend(line, end, s.used, lent) {
+        HexRun::Lent(n) => {
+            let mut t = s;
+            if k == names::CONTAINER {
+                let row = s.count * 18;
+                rows[row + names::START] = s.used as u64;
+                rows[row + names::SIZE] = (n - s.used) as u64;
+                t = with(s, k);
+            }
+            t.used = n;
+            Next {
+                at: line.len(),
+                state: t,
+            }
+        }
+        HexRun::Bad => {
+            let failed = state::fail(s, out, Fault::BadHex, k);
+            Next {
+                at: end,
+                state: failed,
+            }
+        }
+        HexRun::TooMany => {
+            let failed = state::fail(s, out, Fault::TooManyBytes, names::NONE);
+            Next {
+                at: end,
+                state: failed,
+            }
+        }
+    }
+}
+
+// A word of a call or a candidate, which ends at an index, with what stands behind it.
+pub(crate) fn take(
+    line: &[u8],
+    end: usize,
+    k: usize,
+    s: State,
+    rows: &mut [u64; 306],
+    lent: &mut [u8; 65536],
+    out: &mut [u8; 65536],
+) -> Next
+    requires { ⌜ end ≤ length (now line) ⌝ }
+    requires { ⌜ k < 21 ⌝ }
+    requires { ⌜ Sound s ⌝ }
+    ensures { λ r. ⌜ (end ≤ r .at) × ((r .at ≤ length (now (line .entry))) × Sound (r .state)) ⌝ }
+{
+    let admitted = admit(s, out, k);
+    if admitted.place == state::SKIPPED {
+        return Next {
+            at: end,
+            state: admitted,
+        };
+    }
+    if k < names::CONTAINER {
+        return number(line, end, k, s, rows, out);
+    }
+    if k <= names::LENT {
+        return bytes(line, end, k, s, rows, lent, out);
+    }
+    Next {
+        at: end,
+        state: with(s, k),
+    }
+}
