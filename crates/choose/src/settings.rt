@@ -32,55 +32,33 @@ const LIMITS: [u64; 17] = [
     state::MOST,
 ];
 
-// The words that can stand behind `call`: all of the first 21 but rank, sp, rf, sr, lql, etx to container.
-const OF_CALL: [bool; 21] = [
-    true,
-    true,
-    false,
-    false,
-    false,
-    false,
-    true,
-    false,
-    true,
-    true,
-    true,
-    true,
-    false,
-    false,
-    false,
-    false,
-    false,
-    false,
-    true,
-    true,
-    true,
-];
+// The words that can stand behind `call`, and those that can stand behind `candidate`, as bits.
+const OF_CALL: u64 = (1 << names::MINHOP)
+    | (1 << names::MAXINCREASE)
+    | (1 << names::TYPE)
+    | (1 << names::LOWEST)
+    | (1 << names::ENERGY)
+    | (1 << names::CURRENT)
+    | (1 << names::ROOM)
+    | (1 << names::LENT)
+    | (1 << names::AGGREGATOR)
+    | (1 << names::OVERLOADED);
 
-// The words that can stand behind `candidate`: all of the first 21 but minhop, maxincrease, lowest, current, room and lent.
-const OF_CANDIDATE: [bool; 21] = [
-    false,
-    false,
-    true,
-    true,
-    true,
-    true,
-    true,
-    true,
-    false,
-    true,
-    false,
-    false,
-    true,
-    true,
-    true,
-    true,
-    true,
-    true,
-    false,
-    true,
-    true,
-];
+const OF_CANDIDATE: u64 = (1 << names::RANK)
+    | (1 << names::SP)
+    | (1 << names::RF)
+    | (1 << names::SR)
+    | (1 << names::TYPE)
+    | (1 << names::LQL)
+    | (1 << names::ENERGY)
+    | (1 << names::ETX)
+    | (1 << names::LATENCY)
+    | (1 << names::THROUGHPUT)
+    | (1 << names::START)
+    | (1 << names::SIZE)
+    | (1 << names::CONTAINER)
+    | (1 << names::AGGREGATOR)
+    | (1 << names::OVERLOADED);
 
 // The column of a row for the words that were given.
 pub const GIVEN: usize = 17;
@@ -98,11 +76,11 @@ enum HexRun {
     TooMany,
 }
 
-// Whether a word is among those that were given.
-pub(crate) fn has(given: u64, k: usize) -> bool
+// Whether a word is among some, by their bits.
+pub(crate) fn has(words: u64, k: usize) -> bool
     requires { ⌜ k < 21 ⌝ }
 {
-    (given >> k) % 2 == 1
+    (words >> k) % 2 == 1
 }
 
 // With a word that is given now.
@@ -130,10 +108,10 @@ fn admit(s: State, out: &mut [u8; 65536], k: usize) -> State
     requires { ⌜ Sound s ⌝ }
     ensures { λ r. ⌜ Sound r ⌝ }
 {
-    if (s.place == state::OWN) & !OF_CALL[k] {
+    if (s.place == state::OWN) & !has(OF_CALL, k) {
         return state::fail(s, out, Fault::OfCandidate, k);
     }
-    if (s.place == state::CANDIDATE) & !OF_CANDIDATE[k] {
+    if (s.place == state::CANDIDATE) & !has(OF_CANDIDATE, k) {
         return state::fail(s, out, Fault::OfCall, k);
     }
     if has(s.given, k) {

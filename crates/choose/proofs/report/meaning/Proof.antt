@@ -3,7 +3,7 @@ use native.Mathlib.Omega.{arith}
 use lib.ListN.{length}
 use lib.Seq.{length-take-le}
 use borrow.Author.Needs.{needs}
-use Rattle.choose.proofs.Laws.{told-short}
+use Rattle.meaning.proofs.WordLaws.{told-inside}
 use Rattle.choose.proofs.report.meaning.Statement.{statement}
 use Rattle.choose.proofs.report.meaning.Tie as tie
 
@@ -23,13 +23,13 @@ array-share-prefix-words : tie.Need-array-share-prefix-words
 array-share-prefix-words c =
     let call = c .before .before .before .before .before .put-meaning in
     let l : length (call .last .1 .0) ≡ 100 = search needs in
-    omega (arith, l, told-short _ _ (call .ensures .0))
+    omega (arith, l, call .ensures .0, told-inside (c .before .before .before .before .before .before .before .args .number) 100)
 
 slice-aggregate-text-2 : tie.Need-slice-aggregate-text-2
 slice-aggregate-text-2 c =
     let call = c .before .before .before .before .before .before .put-meaning in
     let l : length (call .last .1 .0) ≡ 100 = search needs in
-    sym (length-take-le _ _ (omega (arith, l, told-short _ _ (call .ensures .0))))
+    sym (length-take-le _ _ (omega (arith, l, call .ensures .0, told-inside (c .before .before .before .before .before .before .before .before .args .number) 100)))
 
 text-requires-2 : tie.Need-text-requires-2
 text-requires-2 c κs = search needs
