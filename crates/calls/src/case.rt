@@ -1,7 +1,7 @@
 // Reading a case.
 ghost use Prim.Native.Nat.{_≤_};
 ghost use lib.ListN.{length};
-use crate::words;
+use crate::fields;
 use model::Candidate;
 use model::Neighbour;
 use model::Own;
@@ -109,7 +109,7 @@ fn read_candidates(text: &[u8], from: usize, count: usize) -> Candidates
     let mut at = from;
     let mut i = 0;
     while i < n {
-        at = words::numbers(text, at, &limits, &mut row);
+        at = fields::numbers(text, at, &limits, &mut row);
         if at == 0 {
             return Candidates { list, next: 0 };
         }
@@ -126,7 +126,7 @@ pub(crate) fn read(line: &[u8], from: usize) -> Case
 {
     let limits = OWN;
     let mut row = [0u64; 9];
-    let at = words::numbers(line, from, &limits, &mut row);
+    let at = fields::numbers(line, from, &limits, &mut row);
     let count = row[8] as usize;
     let given = read_candidates(line, at, count);
     let candidates = given.list;

@@ -13,8 +13,8 @@ ghost use lib.ListN.{length};
 use libc::STDIN_FILENO;
 
 mod case;
+mod fields;
 mod say;
-mod words;
 
 // How often the buffer is filled at most: a bound for the loop, which only an input of some gigabytes reaches.
 const TURNS: u32 = 65536;
@@ -46,7 +46,7 @@ fn run_line(line: &[u8]) {
         return;
     }
     let mut lent = io::large_buffer();
-    let n = words::bytes(&line[at..], &mut lent);
+    let n = fields::bytes(&line[at..], &mut lent);
     if n * 3 != line.len() - at {
         say::unreadable(space);
         return;

@@ -3,8 +3,8 @@ use mathlib.Core.Path.{_≡_, _∙_}
 use native.Mathlib.Omega.{arith}
 use borrow.Author.Needs.{needs}
 use lib.ListN.{length, length-set}
-use Rattle.calls.proofs.words.numbers.Statement.{statement}
-use Rattle.calls.proofs.words.numbers.Tie as tie
+use Rattle.calls.proofs.fields.numbers.Statement.{statement}
+use Rattle.calls.proofs.fields.numbers.Tie as tie
 
 abbrev Inv-loop : tie.InvT-loop
 Inv-loop text from limits out₀ at₀ i₀ out at i = (at ≤ length text) × ((i ≤ length limits) × (length out ≡ length out₀))
@@ -15,8 +15,8 @@ abbrev μ-loop : tie.MeasureT-loop
 loop-holds : tie.Need-loop-holds Inv-loop μ-loop
 loop-holds c = search needs
 
-decimal-requires : tie.Need-decimal-requires Inv-loop μ-loop
-decimal-requires c κs = search needs
+number-requires : tie.Need-number-requires Inv-loop μ-loop
+number-requires c κs = search needs
 
 mul-if1 : tie.Need-mul-if1 Inv-loop μ-loop
 mul-if1 c = search needs
@@ -60,7 +60,7 @@ numbers-spec =
     Inv-loop
     μ-loop
     loop-holds
-    decimal-requires
+    number-requires
     mul-if1
     shared-slice-read-if1
     same-length
