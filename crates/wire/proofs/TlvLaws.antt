@@ -3,7 +3,8 @@ use mathlib.Core.Path.{_≡_, refl, sym, ap, _∙_}
 use Prim.Native.Nat.{ℕ, suc, _+_, _-_, _≤_, _<_}
 use native.Mathlib.Omega.{arith}
 use mathlib.Core.List.{List, [], _∷_}
-use lib.ListN.{length, take, drop, getD, length-drop}
+use mathlib.Core.Bool.{true, false}
+use lib.ListN.{length, take, drop, getD, length-drop, drop-of-length-le}
 use lib.Seq.{take-all, getD-drop, drop-drop}
 use lib.Dec.{eqb}
 use borrow.Author.Tests.{le-leb, lt-leb, ne-eqb}
@@ -71,3 +72,11 @@ module _ (s : List ℕ) (at left : ℕ) (w : Stepping s at left) where
 -- the rest as a part of a slice
 pub steps-rest : (s : List ℕ) (at : ℕ) → StepsOver s at → tlvsFit (take (length s - at) (drop at s)) ≡ tlvsFit s
 steps-rest s at w = let r : length (drop at s) ≤ length s - at = rw length-drop (omega arith) in rw (take-all (length s - at) (drop at s) r) (w .rest)
+
+-- all bytes are stepped over
+pub steps-all : (s : List ℕ) (at : ℕ) → StepsOver s at → at ≡ length s → true ≡ tlvsFit s
+steps-all s at w e = rw (drop-of-length-le s {i = at} (omega arith), tlvs-few [] (omega arith)) at (w .rest)
+
+-- none are
+pub steps-none : (s : List ℕ) (at : ℕ) → StepsOver s at → (at ≡ length s → ⊥) → at ≡ 0 → false ≡ tlvsFit s
+steps-none s at w h e = sym (w .start e ∙ ne-eqb (length s) 0 (λ z. h (omega arith)))

@@ -41,8 +41,11 @@ fn tlvs_fit(tlvs: &[u8]) -> bool
     ensures { λ r. ⌜ r ≡ tlvsFit (now (tlvs .entry)) ⌝ }
 {
     let at = behind_tlvs(tlvs);
+    if at == tlvs.len() {
+        return true;
+    }
     if at == 0 {
-        return tlvs.len() == 0;
+        return false;
     }
     tlvs_fit(&tlvs[at..])
 }

@@ -1,9 +1,9 @@
 -- `tlvs_fit` meets its contract, by the bytes behind some TLVs.
-use mathlib.Core.Path.{sym, _∙_}
+use mathlib.Core.Path.{_∙_}
 use native.Mathlib.Omega.{arith}
 use borrow.Author.Needs.{needs}
 use lib.ListN.{length, length-take, length-drop}
-use Rattle.wire.proofs.TlvLaws.{steps-rest}
+use Rattle.wire.proofs.TlvLaws.{steps-all, steps-none, steps-rest}
 use Prim.Native.Nat.{ℕ, _<_}
 use borrow.Fn.Kinds.{In}
 use borrow.Fn.PlainCycle.{Measures, is, falls, and}
@@ -38,7 +38,15 @@ tlvs-fit-returns : (t : ℕ) → tlvs-fit-lts.Need-returns (
   tlvs-fit-below t,
   tlvs-fit.Post,
 ) (tlvs-fit-at t) tlvs-fit.Post
-tlvs-fit-returns t c = sym (c .before .behind-tlvs .ensures .start (c .if1 .taken))
+tlvs-fit-returns t c = steps-all _ _ (c .before .behind-tlvs .ensures) (c .if1 .taken)
+
+tlvs-fit-returns-2 : (t : ℕ) → tlvs-fit-lts.Need-returns-2 (
+  behind-tlvs-reads.Asked,
+  behind-tlvs-reads.Learnt,
+  tlvs-fit-below t,
+  tlvs-fit.Post,
+) (tlvs-fit-at t) tlvs-fit.Post
+tlvs-fit-returns-2 t c = steps-none _ _ (c .before .before .behind-tlvs .ensures) (c .before .if1 .left) (c .if2 .taken)
 
 tlvs-fit-sub-tlvs-fit : (t : ℕ) → tlvs-fit-lts.Need-sub-tlvs-fit (
   behind-tlvs-reads.Asked,
@@ -46,7 +54,7 @@ tlvs-fit-sub-tlvs-fit : (t : ℕ) → tlvs-fit-lts.Need-sub-tlvs-fit (
   tlvs-fit-below t,
   tlvs-fit.Post,
 ) (tlvs-fit-at t) tlvs-fit.Post
-tlvs-fit-sub-tlvs-fit t c = c .before .behind-tlvs .ensures .inside
+tlvs-fit-sub-tlvs-fit t c = c .before .before .behind-tlvs .ensures .inside
 
 tlvs-fit-part-tlvs-fit-start : (t : ℕ) → tlvs-fit-lts.Need-part-tlvs-fit-start (
   behind-tlvs-reads.Asked,
@@ -54,7 +62,7 @@ tlvs-fit-part-tlvs-fit-start : (t : ℕ) → tlvs-fit-lts.Need-part-tlvs-fit-sta
   tlvs-fit-below t,
   tlvs-fit.Post,
 ) (tlvs-fit-at t) tlvs-fit.Post
-tlvs-fit-part-tlvs-fit-start t c = c .before .behind-tlvs .ensures .inside
+tlvs-fit-part-tlvs-fit-start t c = c .before .before .behind-tlvs .ensures .inside
 
 tlvs-fit-part-tlvs-fit-end : (t : ℕ) → tlvs-fit-lts.Need-part-tlvs-fit-end (
   behind-tlvs-reads.Asked,
@@ -70,15 +78,15 @@ tlvs-fit-tlvs-fit-requires : (t : ℕ) → tlvs-fit-lts.Need-tlvs-fit-requires (
   tlvs-fit-below t,
   tlvs-fit.Post,
 ) (tlvs-fit-at t) tlvs-fit.Post
-tlvs-fit-tlvs-fit-requires t c κs = (simp (length-take, length-drop) (omega (arith, c .before .before .behind-tlvs .ensures .inside, c .before .before .before .before .pre .0)), tt)
+tlvs-fit-tlvs-fit-requires t c κs = (simp (length-take, length-drop) (omega (arith, c .before .before .before .behind-tlvs .ensures .inside, c .before .before .before .before .before .pre .0)), tt)
 
-tlvs-fit-returns-2 : (t : ℕ) → tlvs-fit-lts.Need-returns-2 (
+tlvs-fit-returns-3 : (t : ℕ) → tlvs-fit-lts.Need-returns-3 (
   behind-tlvs-reads.Asked,
   behind-tlvs-reads.Learnt,
   tlvs-fit-below t,
   tlvs-fit.Post,
 ) (tlvs-fit-at t) tlvs-fit.Post
-tlvs-fit-returns-2 t c = c .tlvs-fit .ensures ∙ steps-rest _ _ (c .before .before .before .behind-tlvs .ensures)
+tlvs-fit-returns-3 t c = c .tlvs-fit .ensures ∙ steps-rest _ _ (c .before .before .before .before .behind-tlvs .ensures)
 
 pub +tlvs-fit-spec : {M : Type 1} → statement M
 +tlvs-fit-spec = close μ-tlvs-fit λ t. tlvs-fit-lts.spec (
@@ -91,8 +99,9 @@ pub +tlvs-fit-spec : {M : Type 1} → statement M
     tlvs-fit.Post
     (tlvs-fit-behind-tlvs-requires t)
     (tlvs-fit-returns t)
+    (tlvs-fit-returns-2 t)
     (tlvs-fit-sub-tlvs-fit t)
     (tlvs-fit-part-tlvs-fit-start t)
     (tlvs-fit-part-tlvs-fit-end t)
     (tlvs-fit-tlvs-fit-requires t)
-    (tlvs-fit-returns-2 t)
+    (tlvs-fit-returns-3 t)
