@@ -5,6 +5,8 @@ ghost use Rattle.choose.specs.Sound.{Sound};
 use crate::names;
 use crate::report;
 use crate::settings;
+use crate::state::Buffer;
+use crate::state::Rows;
 use crate::state::State;
 use model::Candidate;
 use model::Neighbour;
@@ -39,7 +41,7 @@ fn neighbour_flags(given: u64) -> u8 {
 }
 
 // The numbers of a row are within their limits, so that a remainder is the number.
-fn own_of(rows: &[u64; 306]) -> Own {
+fn own_of(rows: &Rows) -> Own {
     Own {
         minhop: (rows[names::MINHOP] % 65536) as u16,
         maxincrease: (rows[names::MAXINCREASE] % 65536) as u16,
@@ -52,7 +54,7 @@ fn own_of(rows: &[u64; 306]) -> Own {
 }
 
 // The neighbour whose row begins at an index.
-fn neighbour_of(rows: &[u64; 306], at: usize) -> Neighbour
+fn neighbour_of(rows: &Rows, at: usize) -> Neighbour
     requires { ⌜ at ≤ 288 ⌝ }
 {
     Neighbour {
@@ -70,7 +72,7 @@ fn neighbour_of(rows: &[u64; 306], at: usize) -> Neighbour
     }
 }
 
-fn candidate_of(rows: &[u64; 306], at: usize) -> Candidate
+fn candidate_of(rows: &Rows, at: usize) -> Candidate
     requires { ⌜ at ≤ 288 ⌝ }
 {
     Candidate {
@@ -80,8 +82,8 @@ fn candidate_of(rows: &[u64; 306], at: usize) -> Candidate
     }
 }
 
-// The candidates, and the first of the rows behind them at the positions that are not used.
-fn candidates_of(rows: &[u64; 306], count: usize) -> [Candidate; 16]
+// The candidates. The call looks at none of the positions behind them; they hold the own row.
+fn candidates_of(rows: &Rows, count: usize) -> [Candidate; 16]
     requires { ⌜ count ≤ 16 ⌝ }
 {
     let mut list = [candidate_of(rows, 0); 16];
@@ -94,7 +96,7 @@ fn candidates_of(rows: &[u64; 306], count: usize) -> [Candidate; 16]
 }
 
 // Calls with an output of the room that the rows give at the start of sent, and writes the answer.
-fn run_in(s: State, rows: &[u64; 306], lent: &[u8], sent: &mut [u8], out: &mut [u8; 65536]) -> State
+fn run_in(s: State, rows: &Rows, lent: &[u8], sent: &mut [u8], out: &mut Buffer) -> State
     requires { ⌜ Sound s ⌝ }
     requires { ⌜ s .used ≤ length (now lent) ⌝ }
     requires { ⌜ 1000 ≤ length (now sent) ⌝ }
@@ -116,7 +118,7 @@ fn run_in(s: State, rows: &[u64; 306], lent: &[u8], sent: &mut [u8], out: &mut [
 }
 
 // Calls, and writes the answer.
-pub(crate) fn run(s: State, rows: &[u64; 306], lent: &[u8; 65536], out: &mut [u8; 65536]) -> State
+pub(crate) fn run(s: State, rows: &Rows, lent: &Buffer, out: &mut Buffer) -> State
     requires { ⌜ Sound s ⌝ }
     ensures { λ r. ⌜ Sound r ⌝ }
 {

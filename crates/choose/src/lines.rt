@@ -1,5 +1,5 @@
 // From lines to words, and from words to calls.
-ghost use Prim.Native.Nat.{_≤_, _<_};
+ghost use Prim.Native.Nat.{_≤_};
 ghost use lib.ListN.{length};
 ghost use Rattle.choose.specs.Sound.{Sound};
 use crate::answer;
@@ -9,13 +9,15 @@ use crate::sections;
 use crate::settings;
 use crate::settings::Next;
 use crate::state;
+use crate::state::Buffer;
+use crate::state::Rows;
 use crate::state::State;
 
 // The bytes of a line at most, its end not among them.
 pub const LONGEST: usize = 4096;
 
 // Ends a call, and answers it where it has no error.
-fn end_call(s: State, rows: &mut [u64; 306], lent: &[u8; 65536], out: &mut [u8; 65536]) -> State
+fn end_call(s: State, rows: &mut Rows, lent: &Buffer, out: &mut Buffer) -> State
     requires { ⌜ Sound s ⌝ }
     ensures { λ r. ⌜ Sound r ⌝ }
 {
@@ -35,9 +37,9 @@ fn word(
     from: usize,
     to: usize,
     s: State,
-    rows: &mut [u64; 306],
-    lent: &mut [u8; 65536],
-    out: &mut [u8; 65536],
+    rows: &mut Rows,
+    lent: &mut Buffer,
+    out: &mut Buffer,
 ) -> Next
     requires { ⌜ (from ≤ to) × (to ≤ length (now line)) ⌝ }
     requires { ⌜ Sound s ⌝ }
@@ -52,30 +54,22 @@ fn word(
     if s.place == state::SKIPPED {
         return Next { at: to, state: s };
     }
-    let k = names::look_up(text);
     if s.place == state::BEFORE {
-        let t = state::fail(s, out, Fault::BeforeCall, names::NONE);
-        return Next { at: to, state: t };
+        return settings::stop(to, s, out, Fault::BeforeCall, names::NONE);
     }
+    let k = names::look_up(text);
     if k == names::CANDIDATE {
         let t = sections::begin_candidate(s, rows, out);
         return Next { at: to, state: t };
     }
     if names::CANDIDATE < k {
-        let t = state::fail(s, out, Fault::UnknownWord, names::NONE);
-        return Next { at: to, state: t };
+        return settings::stop(to, s, out, Fault::UnknownWord, names::NONE);
     }
     settings::take(line, to, k, s, rows, lent, out)
 }
 
 // The words of a line.
-fn words_of(
-    line: &[u8],
-    s: State,
-    rows: &mut [u64; 306],
-    lent: &mut [u8; 65536],
-    out: &mut [u8; 65536],
-) -> State
+fn words_of(line: &[u8], s: State, rows: &mut Rows, lent: &mut Buffer, out: &mut Buffer) -> State
     requires { ⌜ Sound s ⌝ }
     ensures { λ r. ⌜ Sound r ⌝ }
 {
@@ -94,13 +88,7 @@ fn words_of(
 }
 
 // A line without its end.
-fn line(
-    text: &[u8],
-    s: State,
-    rows: &mut [u64; 306],
-    lent: &mut [u8; 65536],
-    out: &mut [u8; 65536],
-) -> State
+fn line(text: &[u8], s: State, rows: &mut Rows, lent: &mut Buffer, out: &mut Buffer) -> State
     requires { ⌜ Sound s ⌝ }
     ensures { λ r. ⌜ Sound r ⌝ }
 {
@@ -120,9 +108,9 @@ fn line(
 pub(crate) fn whole(
     text: &[u8],
     s: State,
-    rows: &mut [u64; 306],
-    lent: &mut [u8; 65536],
-    out: &mut [u8; 65536],
+    rows: &mut Rows,
+    lent: &mut Buffer,
+    out: &mut Buffer,
 ) -> Next
     requires { ⌜ Sound s ⌝ }
     ensures { λ r. ⌜ (r .at ≤ length (now (text .entry))) × Sound (r .state) ⌝ }
@@ -141,13 +129,7 @@ pub(crate) fn whole(
 }
 
 // What stands behind the last line's end: a line too, unless there is nothing.
-fn rest(
-    text: &[u8],
-    s: State,
-    rows: &mut [u64; 306],
-    lent: &mut [u8; 65536],
-    out: &mut [u8; 65536],
-) -> State
+fn rest(text: &[u8], s: State, rows: &mut Rows, lent: &mut Buffer, out: &mut Buffer) -> State
     requires { ⌜ Sound s ⌝ }
     ensures { λ r. ⌜ Sound r ⌝ }
 {
@@ -161,9 +143,9 @@ fn rest(
 pub(crate) fn last(
     text: &[u8],
     s: State,
-    rows: &mut [u64; 306],
-    lent: &mut [u8; 65536],
-    out: &mut [u8; 65536],
+    rows: &mut Rows,
+    lent: &mut Buffer,
+    out: &mut Buffer,
 ) -> State
     requires { ⌜ Sound s ⌝ }
     ensures { λ r. ⌜ Sound r ⌝ }

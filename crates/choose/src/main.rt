@@ -3,6 +3,8 @@
 ghost use Prim.Native.Nat.{_≤_};
 ghost use lib.ListN.{length};
 ghost use Rattle.choose.specs.Sound.{Sound};
+use crate::state::Buffer;
+use crate::state::Rows;
 use crate::state::State;
 use libc::STDIN_FILENO;
 
@@ -74,9 +76,9 @@ fn turn(
     buffer: &mut [u8],
     kept: usize,
     s: State,
-    rows: &mut [u64; 306],
-    lent: &mut [u8; 65536],
-    out: &mut [u8; 65536],
+    rows: &mut Rows,
+    lent: &mut Buffer,
+    out: &mut Buffer,
 ) -> Left
     requires { ⌜ kept ≤ length (now buffer) ⌝ }
     requires { ⌜ Sound s ⌝ }

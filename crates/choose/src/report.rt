@@ -1,12 +1,13 @@
 // The lines of an answered call.
-ghost use Prim.Native.Nat.{_≤_, _<_};
+ghost use Prim.Native.Nat.{_≤_};
 use crate::say;
+use crate::state::Buffer;
 use model::Answer;
 
 const HEX: [u8; 16] = *b"0123456789ABCDEF";
 
 // Puts a word and a number, with no line end.
-fn pair(out: &mut [u8; 65536], held: usize, word: &[u8], n: u64) -> usize
+fn pair(out: &mut Buffer, held: usize, word: &[u8], n: u64) -> usize
     requires { ⌜ held ≤ 65536 ⌝ }
     ensures { λ r. ⌜ r ≤ 65536 ⌝ }
 {
@@ -15,7 +16,7 @@ fn pair(out: &mut [u8; 65536], held: usize, word: &[u8], n: u64) -> usize
 }
 
 // Puts a line of a word and a number.
-fn line(out: &mut [u8; 65536], held: usize, word: &[u8], n: u64) -> usize
+fn line(out: &mut Buffer, held: usize, word: &[u8], n: u64) -> usize
     requires { ⌜ held ≤ 65536 ⌝ }
     ensures { λ r. ⌜ r ≤ 65536 ⌝ }
 {
@@ -24,7 +25,7 @@ fn line(out: &mut [u8; 65536], held: usize, word: &[u8], n: u64) -> usize
 }
 
 // Puts what a number means, behind `: `, and ends the line.
-fn meaning(out: &mut [u8; 65536], held: usize, number: u8) -> usize
+fn meaning(out: &mut Buffer, held: usize, number: u8) -> usize
     requires { ⌜ held ≤ 65536 ⌝ }
     ensures { λ r. ⌜ r ≤ 65536 ⌝ }
 {
@@ -36,7 +37,7 @@ fn meaning(out: &mut [u8; 65536], held: usize, number: u8) -> usize
 }
 
 // Puts the line of a verdict.
-fn verdict(out: &mut [u8; 65536], held: usize, position: usize, number: u8, place: u16) -> usize
+fn verdict(out: &mut Buffer, held: usize, position: usize, number: u8, place: u16) -> usize
     requires { ⌜ held ≤ 65536 ⌝ }
     ensures { λ r. ⌜ r ≤ 65536 ⌝ }
 {
@@ -50,7 +51,7 @@ fn verdict(out: &mut [u8; 65536], held: usize, position: usize, number: u8, plac
 }
 
 // Puts a line for each candidate.
-fn verdicts(out: &mut [u8; 65536], held: usize, answer: Answer, count: usize) -> usize
+fn verdicts(out: &mut Buffer, held: usize, answer: Answer, count: usize) -> usize
     requires { ⌜ held ≤ 65536 ⌝ }
     requires { ⌜ count ≤ 16 ⌝ }
     ensures { λ r. ⌜ r ≤ 65536 ⌝ }
@@ -67,7 +68,7 @@ fn verdicts(out: &mut [u8; 65536], held: usize, answer: Answer, count: usize) ->
 }
 
 // Puts the lines of the parent and of the rank.
-fn parent(out: &mut [u8; 65536], held: usize, answer: Answer) -> usize
+fn parent(out: &mut Buffer, held: usize, answer: Answer) -> usize
     requires { ⌜ held ≤ 65536 ⌝ }
     ensures { λ r. ⌜ r ≤ 65536 ⌝ }
 {
@@ -79,7 +80,7 @@ fn parent(out: &mut [u8; 65536], held: usize, answer: Answer) -> usize
 }
 
 // Puts the line of the leaf answer.
-fn leaf(out: &mut [u8; 65536], held: usize, number: u8) -> usize
+fn leaf(out: &mut Buffer, held: usize, number: u8) -> usize
     requires { ⌜ held ≤ 65536 ⌝ }
     ensures { λ r. ⌜ r ≤ 65536 ⌝ }
 {
@@ -91,7 +92,7 @@ fn leaf(out: &mut [u8; 65536], held: usize, number: u8) -> usize
 }
 
 // Puts a byte in hexadecimal, behind a space.
-fn hex(out: &mut [u8; 65536], held: usize, b: u8) -> usize
+fn hex(out: &mut Buffer, held: usize, b: u8) -> usize
     requires { ⌜ held ≤ 65536 ⌝ }
     ensures { λ r. ⌜ r ≤ 65536 ⌝ }
 {
@@ -103,7 +104,7 @@ fn hex(out: &mut [u8; 65536], held: usize, b: u8) -> usize
 }
 
 // Puts the first bytes of an output, each behind a space, so many as the size says.
-fn bytes(out: &mut [u8; 65536], held: usize, sent: &[u8], size: u16) -> usize
+fn bytes(out: &mut Buffer, held: usize, sent: &[u8], size: u16) -> usize
     requires { ⌜ held ≤ 65536 ⌝ }
     ensures { λ r. ⌜ r ≤ 65536 ⌝ }
 {
@@ -121,7 +122,7 @@ fn bytes(out: &mut [u8; 65536], held: usize, sent: &[u8], size: u16) -> usize
 }
 
 // Puts the lines of the length and of the container.
-fn container(out: &mut [u8; 65536], held: usize, sent: &[u8], size: u16) -> usize
+fn container(out: &mut Buffer, held: usize, sent: &[u8], size: u16) -> usize
     requires { ⌜ held ≤ 65536 ⌝ }
     ensures { λ r. ⌜ r ≤ 65536 ⌝ }
 {
@@ -136,7 +137,7 @@ fn container(out: &mut [u8; 65536], held: usize, sent: &[u8], size: u16) -> usiz
 
 // Puts the lines of a call, the so-manieth of the input.
 pub(crate) fn call(
-    out: &mut [u8; 65536],
+    out: &mut Buffer,
     held: usize,
     calls: u64,
     answer: Answer,

@@ -1,8 +1,8 @@
 // Writing: lines are gathered in a buffer, which is written out where it is full.
 ghost use Prim.Native.Nat.{_≤_};
-ghost use mathlib.Core.Path.{_≡_};
 ghost use lib.ListN.{length};
 use crate::names;
+use crate::state::Buffer;
 use libc::STDOUT_FILENO;
 
 // What can be wrong with a call.
@@ -31,7 +31,7 @@ pub(crate) fn flush(gathered: &[u8], size: usize)
 }
 
 // Puts a byte behind those that are gathered; answers how many they are then.
-pub(crate) fn byte(out: &mut [u8; 65536], held: usize, b: u8) -> usize
+pub(crate) fn byte(out: &mut Buffer, held: usize, b: u8) -> usize
     requires { ⌜ held ≤ 65536 ⌝ }
     ensures { λ r. ⌜ r ≤ 65536 ⌝ }
 {
@@ -45,7 +45,7 @@ pub(crate) fn byte(out: &mut [u8; 65536], held: usize, b: u8) -> usize
 }
 
 // Puts a text.
-pub(crate) fn text(out: &mut [u8; 65536], held: usize, bytes: &[u8]) -> usize
+pub(crate) fn text(out: &mut Buffer, held: usize, bytes: &[u8]) -> usize
     requires { ⌜ held ≤ 65536 ⌝ }
     ensures { λ r. ⌜ r ≤ 65536 ⌝ }
 {
@@ -59,7 +59,7 @@ pub(crate) fn text(out: &mut [u8; 65536], held: usize, bytes: &[u8]) -> usize
 }
 
 // Puts a number in decimal.
-pub(crate) fn number(out: &mut [u8; 65536], held: usize, n: u64) -> usize
+pub(crate) fn number(out: &mut Buffer, held: usize, n: u64) -> usize
     requires { ⌜ held ≤ 65536 ⌝ }
     ensures { λ r. ⌜ r ≤ 65536 ⌝ }
 {
@@ -69,7 +69,7 @@ pub(crate) fn number(out: &mut [u8; 65536], held: usize, n: u64) -> usize
 }
 
 // Puts the name of a word, with a space behind it; nothing where it has none.
-fn name(out: &mut [u8; 65536], held: usize, k: usize) -> usize
+fn name(out: &mut Buffer, held: usize, k: usize) -> usize
     requires { ⌜ held ≤ 65536 ⌝ }
     ensures { λ r. ⌜ r ≤ 65536 ⌝ }
 {
@@ -90,7 +90,7 @@ fn name(out: &mut [u8; 65536], held: usize, k: usize) -> usize
 }
 
 // Puts what is wrong.
-fn phrase(out: &mut [u8; 65536], held: usize, what: Fault) -> usize
+fn phrase(out: &mut Buffer, held: usize, what: Fault) -> usize
     requires { ⌜ held ≤ 65536 ⌝ }
     ensures { λ r. ⌜ r ≤ 65536 ⌝ }
 {
@@ -117,7 +117,7 @@ fn phrase(out: &mut [u8; 65536], held: usize, what: Fault) -> usize
 }
 
 // Puts the line of an error, of the word k where it is about one.
-pub(crate) fn error(out: &mut [u8; 65536], held: usize, line: u64, what: Fault, k: usize) -> usize
+pub(crate) fn error(out: &mut Buffer, held: usize, line: u64, what: Fault, k: usize) -> usize
     requires { ⌜ held ≤ 65536 ⌝ }
     ensures { λ r. ⌜ r ≤ 65536 ⌝ }
 {

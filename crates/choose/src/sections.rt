@@ -1,10 +1,12 @@
 // Where a call or a candidate begins and ends.
-ghost use Prim.Native.Nat.{_≤_, _<_};
+ghost use Prim.Native.Nat.{_≤_};
 ghost use Rattle.choose.specs.Sound.{Sound};
 use crate::names;
 use crate::say::Fault;
 use crate::settings;
 use crate::state;
+use crate::state::Buffer;
+use crate::state::Rows;
 use crate::state::State;
 
 // The words that a call needs, and those that a candidate needs, as bits.
@@ -49,7 +51,7 @@ fn first_of(words: u64) -> usize {
 }
 
 // Makes all numbers of a row 0.
-fn clear(rows: &mut [u64; 306], row: usize)
+fn clear(rows: &mut Rows, row: usize)
     requires { ⌜ row ≤ 16 ⌝ }
 {
     let mut k = 0;
@@ -60,7 +62,7 @@ fn clear(rows: &mut [u64; 306], row: usize)
 }
 
 // Ends what `call` or `candidate` began: fails where a word is missing.
-pub(crate) fn end(s: State, rows: &mut [u64; 306], out: &mut [u8; 65536]) -> State
+pub(crate) fn end(s: State, rows: &mut Rows, out: &mut Buffer) -> State
     requires { ⌜ Sound s ⌝ }
     ensures { λ r. ⌜ Sound r ⌝ }
 {
@@ -73,7 +75,7 @@ pub(crate) fn end(s: State, rows: &mut [u64; 306], out: &mut [u8; 65536]) -> Sta
 }
 
 // A call begins.
-pub(crate) fn begin_call(s: State, rows: &mut [u64; 306]) -> State
+pub(crate) fn begin_call(s: State, rows: &mut Rows) -> State
     requires { ⌜ Sound s ⌝ }
     ensures { λ r. ⌜ Sound r ⌝ }
 {
@@ -93,7 +95,7 @@ pub(crate) fn begin_call(s: State, rows: &mut [u64; 306]) -> State
 }
 
 // The next candidate begins.
-pub(crate) fn begin_candidate(s: State, rows: &mut [u64; 306], out: &mut [u8; 65536]) -> State
+pub(crate) fn begin_candidate(s: State, rows: &mut Rows, out: &mut Buffer) -> State
     requires { ⌜ Sound s ⌝ }
     ensures { λ r. ⌜ Sound r ⌝ }
 {

@@ -1,11 +1,13 @@
-// What a word gives a call or a candidate. The row of `call` and one of each candidate stand in a table of 17 rows, 18 numbers
-// to a row: the number behind each of the first 17 words, then the bits of the words that were given.
-ghost use Prim.Native.Nat.{_+_, _≤_, _<_};
+// What a word gives a call or a candidate.
+ghost use mathlib.Core.Path.{_≡_};
+ghost use Prim.Native.Nat.{_≤_, _<_};
 ghost use lib.ListN.{length};
 ghost use Rattle.choose.specs.Sound.{Sound, Holds};
 use crate::names;
 use crate::say::Fault;
 use crate::state;
+use crate::state::Buffer;
+use crate::state::Rows;
 use crate::state::State;
 use words::Decimal;
 use words::HexByte;
@@ -76,6 +78,18 @@ enum HexRun {
     TooMany,
 }
 
+// Fails at a word that ends at an index: what stands behind it is skipped as words.
+pub(crate) fn stop(end: usize, s: State, out: &mut Buffer, what: Fault, k: usize) -> Next
+    requires { ⌜ Sound s ⌝ }
+    ensures { λ r. ⌜ (r .at ≡ end) × Sound (r .state) ⌝ }
+{
+    let failed = state::fail(s, out, what, k);
+    Next {
+        at: end,
+        state: failed,
+    }
+}
+
 // Whether a word is among some, by their bits.
 pub(crate) fn has(words: u64, k: usize) -> bool
     requires { ⌜ k < 21 ⌝ }
@@ -103,7 +117,7 @@ fn both_ways(given: u64, k: usize) -> bool {
 }
 
 // Fails where a word does not belong to its place, or was given already.
-fn admit(s: State, out: &mut [u8; 65536], k: usize) -> State
+fn admit(s: State, out: &mut Buffer, k: usize) -> State
     requires { ⌜ k < 21 ⌝ }
     requires { ⌜ Sound s ⌝ }
     ensures { λ r. ⌜ Sound r ⌝ }
@@ -124,14 +138,7 @@ fn admit(s: State, out: &mut [u8; 65536], k: usize) -> State
 }
 
 // The number behind a word, which ends at an index.
-fn number(
-    line: &[u8],
-    end: usize,
-    k: usize,
-    s: State,
-    rows: &mut [u64; 306],
-    out: &mut [u8; 65536],
-) -> Next
+fn number(line: &[u8], end: usize, k: usize, s: State, rows: &mut Rows, out: &mut Buffer) -> Next
     requires { ⌜ end ≤ length (now line) ⌝ }
     requires { ⌜ k < 17 ⌝ }
     requires { ⌜ Sound s ⌝ }
@@ -142,11 +149,7 @@ fn number(
     match words::number(&line[from..to]) {
         Decimal::Value(n) => {
             if LIMITS[k] < n {
-                let failed = state::fail(s, out, Fault::TooLarge(LIMITS[k]), k);
-                return Next {
-                    at: end,
-                    state: failed,
-                };
+                return stop(end, s, out, Fault::TooLarge(LIMITS[k]), k);
             }
             rows[s.count * 18 + k] = n;
             let given = with(s, k);
@@ -155,25 +158,13 @@ fn number(
                 state: given,
             }
         }
-        Decimal::TooLarge => {
-            let failed = state::fail(s, out, Fault::TooLarge(LIMITS[k]), k);
-            Next {
-                at: end,
-                state: failed,
-            }
-        }
-        Decimal::NotANumber => {
-            let failed = state::fail(s, out, Fault::NoNumber, k);
-            Next {
-                at: end,
-                state: failed,
-            }
-        }
+        Decimal::TooLarge => stop(end, s, out, Fault::TooLarge(LIMITS[k]), k),
+        Decimal::NotANumber => stop(end, s, out, Fault::NoNumber, k),
     }
 }
 
 // Puts the bytes of a line from an index on behind those of the lent run.
-fn lend(line: &[u8], from: usize, used: usize, lent: &mut [u8; 65536]) -> HexRun
+fn lend(line: &[u8], from: usize, used: usize, lent: &mut Buffer) -> HexRun
     requires { ⌜ from ≤ length (now line) ⌝ }
     requires { ⌜ used ≤ 65536 ⌝ }
     ensures { λ r. ⌜ Holds used r ⌝ }
@@ -210,9 +201,9 @@ fn bytes(
     end: usize,
     k: usize,
     s: State,
-    rows: &mut [u64; 306],
-    lent: &mut [u8; 65536],
-    out: &mut [u8; 65536],
+    rows: &mut Rows,
+    lent: &mut Buffer,
+    out: &mut Buffer,
 ) -> Next
     requires { ⌜ end ≤ length (now line) ⌝ }
     requires { ⌜ k < 21 ⌝ }
@@ -234,20 +225,8 @@ fn bytes(
                 state: t,
             }
         }
-        HexRun::Bad => {
-            let failed = state::fail(s, out, Fault::BadHex, k);
-            Next {
-                at: end,
-                state: failed,
-            }
-        }
-        HexRun::TooMany => {
-            let failed = state::fail(s, out, Fault::TooManyBytes, names::NONE);
-            Next {
-                at: end,
-                state: failed,
-            }
-        }
+        HexRun::Bad => stop(end, s, out, Fault::BadHex, k),
+        HexRun::TooMany => stop(end, s, out, Fault::TooManyBytes, names::NONE),
     }
 }
 
@@ -257,9 +236,9 @@ pub(crate) fn take(
     end: usize,
     k: usize,
     s: State,
-    rows: &mut [u64; 306],
-    lent: &mut [u8; 65536],
-    out: &mut [u8; 65536],
+    rows: &mut Rows,
+    lent: &mut Buffer,
+    out: &mut Buffer,
 ) -> Next
     requires { ⌜ end ≤ length (now line) ⌝ }
     requires { ⌜ k < 21 ⌝ }

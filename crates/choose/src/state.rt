@@ -1,6 +1,5 @@
 // What is known of the input so far.
 ghost use Rattle.choose.specs.Sound.{Sound};
-use crate::names;
 use crate::say;
 use crate::say::Fault;
 
@@ -15,6 +14,13 @@ pub const SKIPPED: u8 = 3;
 
 // The largest number.
 pub const MOST: u64 = 18446744073709551615;
+
+// The lent run, or the output that is gathered.
+pub type Buffer = [u8; 65536];
+
+// The row of `call`, and one of each candidate: the number behind each of the first 17 words, then the bits of the words that were
+// given.
+pub type Rows = [u64; 306];
 
 // The place in the input, and what the call has so far.
 pub struct State {
@@ -61,7 +67,7 @@ pub fn next(n: u64) -> u64 {
 }
 
 // Writes the error at a line, and skips the rest of the call.
-pub(crate) fn fail_at(s: State, out: &mut [u8; 65536], line: u64, what: Fault, k: usize) -> State
+pub(crate) fn fail_at(s: State, out: &mut Buffer, line: u64, what: Fault, k: usize) -> State
     requires { ⌜ Sound s ⌝ }
     ensures { λ r. ⌜ Sound r ⌝ }
 {
@@ -72,7 +78,7 @@ pub(crate) fn fail_at(s: State, out: &mut [u8; 65536], line: u64, what: Fault, k
 }
 
 // Writes the error of a word at the line that is read, and skips the rest of the call.
-pub(crate) fn fail(s: State, out: &mut [u8; 65536], what: Fault, k: usize) -> State
+pub(crate) fn fail(s: State, out: &mut Buffer, what: Fault, k: usize) -> State
     requires { ⌜ Sound s ⌝ }
     ensures { λ r. ⌜ Sound r ⌝ }
 {

@@ -39,14 +39,14 @@ with-requires c κs = search needs
 enum-told : tie.Need-enum-told
 enum-told c = search needs
 
-fail-requires : tie.Need-fail-requires
-fail-requires c κs = search needs
+stop-requires : tie.Need-stop-requires
+stop-requires c κs = search needs
 
 enum-told-2 : tie.Need-enum-told-2
 enum-told-2 c = search needs
 
-fail-requires-2 : tie.Need-fail-requires-2
-fail-requires-2 c κs = search needs
+stop-requires-2 : tie.Need-stop-requires-2
+stop-requires-2 c κs = search needs
 
 returns : tie.Need-returns
 returns c =
@@ -80,9 +80,9 @@ bytes-spec =
     element-write-rows-2
     with-requires
     enum-told
-    fail-requires
+    stop-requires
     enum-told-2
-    fail-requires-2
+    stop-requires-2
     returns
     returns-2
     returns-3
