@@ -3,8 +3,10 @@
 
 mod inputs;
 #[path = "../tests/compare/library.rs"]
+#[allow(dead_code)] // the listing is not measured
 mod library;
 #[path = "../tests/compare/reference/mod.rs"]
+#[allow(dead_code, unused_imports)]
 mod reference;
 mod stack;
 

@@ -1,6 +1,7 @@
 //! The independent implementation's choice alone, for the size of its code.
 
 #[path = "../tests/compare/reference/mod.rs"]
+#[allow(dead_code, unused_imports)]
 mod reference;
 
 use reference::data::{Answer, Candidate, Own, CANDIDATES};
