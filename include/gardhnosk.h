@@ -6,7 +6,7 @@
  * Every call answers, whatever the numbers and the bytes. Nothing is kept or allocated: calls from several threads need no lock.
  * A pointer is valid for the size beside it; where that is 0 nothing is read or written, and it may be null. An output overlaps
  * no input. Stack, with what a call is passed, as measured: under 3 KB for gardhnosk_choose, 2 KB for gardhnosk_meaning and 1 KB
- * for gardhnosk_list.
+ * for gardhnosk_list, but for what a dynamic linker takes at a first call of memcpy.
  */
 #ifndef GARDHNOSK_H
 #define GARDHNOSK_H

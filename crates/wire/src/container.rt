@@ -69,7 +69,7 @@ fn hops_with(hops: u16, header: Header, body: &[u8]) -> u16
     body[1] as u16 + 1
 }
 
-// One object more. Most of an unknown type's bytes are never looked at.
+// One object more, behind others that have no bar. Of an object of unknown type only the flags are kept.
 fn gather(g: Gathered, header: Header, body: &[u8]) -> Gathered
     requires { ⌜ g .place < 65535 ⌝ }
     requires { ⌜ g .number ≡ 0 ⌝ }
