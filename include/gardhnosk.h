@@ -18,6 +18,9 @@
 extern "C" {
 #endif
 
+/* The library is for machines whose size_t has 64 bits; on others this does not compile. */
+typedef char gardhnosk_needs_a_size_t_of_64_bits[sizeof(size_t) == 8 ? 1 : -1];
+
 /* The numbers that a call can answer. gardhnosk_meaning gives the words beside them. */
 enum {
     GARDHNOSK_NONE = 0, /* nothing to report: not refused, no leaf answer, or no candidate at this position */

@@ -35,48 +35,45 @@ tlvs-behind (t ∷ n ∷ s) h l =
 
 -- ---- steps over TLVs
 
--- so far: the bytes left behind the index
-pub record Stepping (s : List ℕ) (at left : ℕ) : Type 0 where
-  pub all : at + left ≡ length s
-  pub rest : tlvsFit (drop at s) ≡ tlvsFit s
-
-pub stepping-first : (s : List ℕ) → Stepping s 0 (length s)
-stepping-first s = record { all = omega arith; rest = refl }
-
-module _ (s : List ℕ) (at left : ℕ) (w : Stepping s at left) where
-  left-drop : length (drop at s) ≡ left
-  left-drop = rw length-drop (omega (arith, w .all))
+module _ (s : List ℕ) (at : ℕ) (l : at ≤ length s) where
+  left-drop : length (drop at s) ≡ length s - at
+  left-drop = length-drop at s
 
   at-byte : getD (drop at s) 1 0 ≡ getD s (at + 1) 0
   at-byte = getD-drop at s 1 0
 
-  -- one TLV more
-  pub stepping-more : 2 ≤ left → getD s (at + 1) 0 ≤ left - 2 → Stepping s (at + (getD s (at + 1) 0 + 2)) (left - 2 - getD s (at + 1) 0)
-  stepping-more l f =
-      let n = getD s (at + 1) 0 in
-      let d : tlvsFit (drop (n + 2) (drop at s)) ≡ tlvsFit (drop at s) = rw (← at-byte) (tlvs-behind (drop at s) (rw left-drop l) (rw (left-drop, at-byte) f)) in
-      record { all = omega (arith, w .all); rest = rw (← drop-drop (n + 2) at s) (d ∙ w .rest) }
+  stays : tlvsFit (drop at s) ≡ eqb (length (drop at s)) 0 → StepsOver s at at
+  stays e = record { inside = l; forward = omega arith; rest = refl; stay = λ z. rw (← left-drop) e }
 
-  stop : (at ≡ 0 → tlvsFit s ≡ eqb (length s) 0) → StepsOver s at
-  stop f = record { inside = omega (arith, w .all); rest = w .rest; start = f }
+  -- no bytes are left, or a lone one
+  pub steps-few : length s - at < 2 → StepsOver s at at
+  steps-few h = stays (tlvs-few (drop at s) (rw left-drop h))
 
   -- a TLV that overruns
-  pub stepping-over : 2 ≤ left → left - 2 < getD s (at + 1) 0 → StepsOver s at
-  stepping-over h l =
-      stop (λ z. let e : getD s (at + 1) 0 ≡ getD s 1 0 = ap (λ k. getD s k 0) (omega arith) in tlvs-over s (omega (arith, w .all)) (rw (← e) (omega (arith, w .all))))
+  pub steps-over : 2 ≤ length s - at → length s - at - 2 < getD s (at + 1) 0 → StepsOver s at at
+  steps-over h o = stays (tlvs-over (drop at s) (rw left-drop h) (rw (left-drop, at-byte) o))
 
-  -- few bytes are left
-  pub stepping-end : (stop : ℕ) → left ≤ stop → (length s ≤ stop → length s < 2) → StepsOver s at
-  stepping-end m l f = stop (λ z. tlvs-few s (f (omega (arith, w .all))))
+  -- a TLV that is whole
+  pub steps-one : 2 ≤ length s - at → getD s (at + 1) 0 ≤ length s - at - 2 → StepsOver s at (at + getD s (at + 1) 0 + 2)
+  steps-one h f =
+      let n = getD s (at + 1) 0 in
+      let d : tlvsFit (drop (n + 2) (drop at s)) ≡ tlvsFit (drop at s) = rw (← at-byte) (tlvs-behind (drop at s) (rw left-drop h) (rw (left-drop, at-byte) f)) in
+      let e : at + n + 2 ≡ at + (n + 2) = omega arith in
+      record { inside = omega arith; forward = omega arith; rest = rw (e, ← drop-drop (n + 2) at s) d; stay = λ z. absurd (omega arith) }
+
+-- steps behind steps
+pub steps-then : (s : List ℕ) (a b c : ℕ) → StepsOver s a b → StepsOver s b c → StepsOver s a c
+steps-then s a b c v w =
+    record { inside = w .inside; forward = omega (arith, v .forward, w .forward); rest = w .rest ∙ v .rest; stay = λ z. v .stay (omega (arith, v .forward, w .forward)) }
 
 -- the rest as a part of a slice
-pub steps-rest : (s : List ℕ) (at : ℕ) → StepsOver s at → tlvsFit (take (length s - at) (drop at s)) ≡ tlvsFit s
+pub steps-rest : (s : List ℕ) (at : ℕ) → StepsOver s 0 at → tlvsFit (take (length s - at) (drop at s)) ≡ tlvsFit s
 steps-rest s at w = let r : length (drop at s) ≤ length s - at = rw length-drop (omega arith) in rw (take-all (length s - at) (drop at s) r) (w .rest)
 
 -- all bytes are stepped over
-pub steps-all : (s : List ℕ) (at : ℕ) → StepsOver s at → at ≡ length s → true ≡ tlvsFit s
+pub steps-all : (s : List ℕ) (at : ℕ) → StepsOver s 0 at → at ≡ length s → true ≡ tlvsFit s
 steps-all s at w e = rw (drop-of-length-le s {i = at} (omega arith), tlvs-few [] (omega arith)) at (w .rest)
 
 -- none are
-pub steps-none : (s : List ℕ) (at : ℕ) → StepsOver s at → (at ≡ length s → ⊥) → at ≡ 0 → false ≡ tlvsFit s
-steps-none s at w h e = sym (w .start e ∙ ne-eqb (length s) 0 (λ z. h (omega arith)))
+pub steps-none : (s : List ℕ) (at : ℕ) → StepsOver s 0 at → (at ≡ length s → ⊥) → at ≡ 0 → false ≡ tlvsFit s
+steps-none s at w h e = sym (w .stay e ∙ ne-eqb (length s - 0) 0 (λ z. h (omega arith)))

@@ -1,46 +1,54 @@
 // Whether a body is as the table has it.
 ghost use mathlib.Core.Path.{_≡_};
-ghost use Prim.Native.Nat.{_≤_, _<_};
+ghost use Prim.Native.Nat.{_≤_};
+ghost use lib.ListN.{length};
 ghost use Rattle.model.specs.Object.{kindOf};
 ghost use Rattle.model.specs.Table.{row};
 ghost use Rattle.model.specs.Reading.{tlvsFit, fixedShape, recordedShape};
 ghost use Rattle.wire.specs.Tlv.{StepsOver};
 use crate::table;
 
-// How many bytes are left, at most, where a call of the walk stops: it steps over some 128, or all but a last one.
-fn stop_of(size: usize) -> usize
-    ensures { λ r. ⌜ (1 ≤ r) × (size ≤ r → size < 2) ⌝ }
+// The index behind the TLV at an index; that index itself where no whole TLV stands there.
+fn behind_tlv(tlvs: &[u8], at: usize) -> usize
+    requires { ⌜ at ≤ length (now tlvs) ⌝ }
+    ensures { λ r. ⌜ StepsOver (now (tlvs .entry)) at r ⌝ }
 {
-    if 128 < size {
-        return size - 128;
+    let left = tlvs.len() - at;
+    if left < 2 {
+        return at;
     }
-    1
+    let size = tlvs[at + 1] as usize;
+    if left - 2 < size {
+        return at;
+    }
+    at + size + 2
 }
 
-// Steps over TLVs, none of which overruns; answers the index behind them.
-fn behind_tlvs(tlvs: &[u8]) -> usize
-    ensures { λ r. ⌜ StepsOver (now (tlvs .entry)) r ⌝ }
+// The index behind two TLVs, or those of them that are whole.
+fn behind_two(tlvs: &[u8], at: usize) -> usize
+    requires { ⌜ at ≤ length (now tlvs) ⌝ }
+    ensures { λ r. ⌜ StepsOver (now (tlvs .entry)) at r ⌝ }
 {
-    let mut at: usize = 0;
-    let mut left = tlvs.len();
-    let stop = stop_of(left);
-    while stop < left {
-        let size = tlvs[at + 1] as usize;
-        let behind = left - 2;
-        if behind < size {
-            return at;
-        }
-        left = behind - size;
-        at += size + 2;
-    }
-    at
+    let next = behind_tlv(tlvs, at);
+    behind_tlv(tlvs, next)
 }
 
-// Whether TLVs fill the bytes. It calls itself on the bytes behind some TLVs, which are fewer by two or more.
+// The index behind four TLVs, or those of them that are whole.
+fn behind_four(tlvs: &[u8], at: usize) -> usize
+    requires { ⌜ at ≤ length (now tlvs) ⌝ }
+    ensures { λ r. ⌜ StepsOver (now (tlvs .entry)) at r ⌝ }
+{
+    let next = behind_two(tlvs, at);
+    behind_two(tlvs, next)
+}
+
+// Whether TLVs fill the bytes. It steps over eight TLVs and calls itself on the rest, which is shorter by two bytes or more: fewer
+// calls than TLVs, for speed and for the stack.
 fn tlvs_fit(tlvs: &[u8]) -> bool
     ensures { λ r. ⌜ r ≡ tlvsFit (now (tlvs .entry)) ⌝ }
 {
-    let at = behind_tlvs(tlvs);
+    let next = behind_four(tlvs, 0);
+    let at = behind_four(tlvs, next);
     if at == tlvs.len() {
         return true;
     }
