@@ -1,6 +1,7 @@
-//! A second implementation of document 01, written from its text and the RFCs alone: it chooses a
-//! preferred parent, writes the container for the next hop, and lists a container. It allocates
-//! nothing and depends on nothing outside this folder.
+//! A second implementation of document 01, written from its text, the RFCs and the readings of
+//! docs/DECISIONS.md, without sight of the proved code or the model: it chooses a preferred parent,
+//! writes the container for the next hop, and lists a container. It allocates nothing and depends on
+//! nothing outside this folder.
 
 mod call;
 mod constraint;
