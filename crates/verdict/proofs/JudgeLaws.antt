@@ -17,11 +17,11 @@ use Rattle.model.specs.declared.Verdict.the-variants.{Barred}
 use Rattle.model.specs.Number.{anyOf, firstOf}
 use Rattle.model.specs.Object.{Object}
 use Rattle.model.specs.Reading.{noPlace, Reading, refused, wellFormed, reading}
-use Rattle.model.specs.Constraint.{hopCount, summary, constraintBar}
+use Rattle.model.specs.Constraint.{hopCount, summary, constraintBar, mandatory}
 use Rattle.model.specs.Verdict.{outOfRange, rankBar, judgeRank, judgeObjects, judgeReading, verdict}
 use Rattle.model.proofs.BoolLaws.{neither}
 use Rattle.model.proofs.FirstLaws.{index-none}
-use Rattle.wire.specs.Reading.{hopsOf, constrains, readingOf}
+use Rattle.wire.specs.Reading.{hopsOf, readingOf}
 use Rattle.wire.specs.declared.container.Reading.the-variants.{Refused, WellFormed}
 use Rattle.verdict.specs.declared.candidate.Barring.{Barring}
 use Rattle.verdict.specs.Judged.{ReadAs, BarsFirst}
@@ -38,7 +38,7 @@ read-objects (wellFormed os) n k h e = (os, refl)
 
 pub read-as : (x : Reading) (n : ℕ) (k : Bool) (h : ℕ) → WellFormed n k h ≡ readingOf x → (os : List Object) → x ≡ wellFormed os → ReadAs n k h os
 read-as x n k h e os q =
-    let r : WellFormed n k h ≡ WellFormed (length os) (anyOf constrains os) (hopsOf (hopCount os)) = e ∙ ap readingOf q in
+    let r : WellFormed n k h ≡ WellFormed (length os) (anyOf mandatory os) (hopsOf (hopCount os)) = e ∙ ap readingOf q in
     record { objects = cc; constraints = cc; hop-metric = cc }
 
 -- the summary by the count of the HP metric
@@ -51,11 +51,11 @@ summary-by s n os e q = ap (λ (x : Quantity). record { hops = x }) (go (s .hops
     go Unknown (Known w) e = absurd (omega arith)
     go Unknown Unknown e = refl
 
--- without constraints no object bars
-pub no-constraints : (c : Neighbour) (s : Summary) (os : List Object) → false ≡ anyOf constrains os → firstOf (constraintBar c s) os ≡ 0
+-- without mandatory constraints no object bars
+pub no-constraints : (c : Neighbour) (s : Summary) (os : List Object) → false ≡ anyOf mandatory os → firstOf (constraintBar c s) os ≡ 0
 unfolding firstOf constraintBar
 no-constraints c s [] e = refl
-no-constraints c s (o ∷ os) e = let (a, b) = neither (constrains o) (anyOf constrains os) (sym e) in rw a (no-constraints c s os (sym b))
+no-constraints c s (o ∷ os) e = let (a, b) = neither (mandatory o) (anyOf mandatory os) (sym e) in rw a (no-constraints c s os (sym b))
 
 module _ {n : ℕ} {k : Bool} {h : ℕ} (c : Neighbour) where
   pub bars-none : (os : List Object) → ReadAs n k h os → k ≡ false → BarsFirst c (summary os) os (record { number = 0; place = n })

@@ -86,7 +86,8 @@ fn summary_of(hops: u16) -> Summary
     }
 }
 
-// The first object of a well-formed container with bar 18 or 19, by what was read of it: without constraints there is none.
+// The first object of a well-formed container with bar 18 or 19, by what was read of it: without mandatory constraints
+// there is none.
 fn barring_of(
     neighbour: Neighbour,
     count: u16,

@@ -1,16 +1,16 @@
 -- One object more behind others: the first bar, its index, the count of the HP metric.
 use mathlib.Core.Path.{_≡_, refl, sym, ap, subst, _∙_}
 use Prim.Native.Nat.{ℕ, zero, suc, _+_, _/_, _%_, _≤_}
-use mathlib.Core.Bool.{true, false}
+use mathlib.Core.Bool.{Bool, true, false, _||_, or-false}
 use mathlib.Core.List.{List, [], _∷_, _++_, append-assoc, append-nil}
 use lib.ListN.{length, length-append}
-use lib.Bits.{bitOr}
 use Rattle.model.specs.Number.{isSet, anyOf, first, firstOf, indexOf}
 use Rattle.model.specs.Object.{Object, kind, known, role, standings}
 use Rattle.model.specs.Table.{row}
 use Rattle.model.specs.Reading.{cannotBe, shaped, sameUse, objectBar, readAs}
-use Rattle.model.specs.Constraint.{hopCount}
+use Rattle.model.specs.Constraint.{hopCount, mandatory}
 use Rattle.model.proofs.FirstLaws.{first-snoc, index-none, index-snoc, index-le, standings-snoc, length-standings}
+use Rattle.model.proofs.ListLaws.{any-append}
 use Rattle.model.proofs.CutLaws.{no-bar}
 use Rattle.wire.specs.declared.container.Gathered.{Gathered}
 use Rattle.wire.specs.declared.container.Reading.the-variants.{Refused, WellFormed}
@@ -18,7 +18,7 @@ use Rattle.wire.specs.Seen.{Marks}
 use Rattle.wire.specs.Gathered.{Gathers, wholeReading}
 use Rattle.wire.specs.Reading.{hopsOf, readingOf}
 use Rattle.wire.proofs.BarLaws.{bar-unknown}
-use Rattle.wire.proofs.SeenLaws.{no-marks, marks-unknown, flags-with}
+use Rattle.wire.proofs.SeenLaws.{no-marks, marks-unknown}
 use Rattle.wire.proofs.HopLaws.{hops-unknown}
 
 -- the bar and the index among objects
@@ -39,9 +39,13 @@ place-snoc es o h =
 place-none : (os : List Object) → barAmong os ≡ 0 → indexAmong os ≡ length os
 place-none os e = index-none objectBar (standings [] os) e ∙ length-standings [] os
 
+-- some object is a mandatory constraint, with one object more
+mandatory-with : (b k : Bool) (es : List Object) (a : Object) → b ≡ anyOf mandatory es → k ≡ mandatory a → b || k ≡ anyOf mandatory (es ++ (a ∷ []))
+mandatory-with b k es a e q = rw (any-append mandatory es (a ∷ []), or-false (mandatory a), ← e, ← q)
+
 -- ---- what is gathered
 
-pub gathers-none : Gathers (record { number = 0; place = 0; seen = 0; hops = 0; flags = 0 }) []
+pub gathers-none : Gathers (record { number = 0; place = 0; seen = 0; hops = 0; constrained = false }) []
 unfolding firstOf indexOf standings hopCount
 gathers-none = record { number = refl; place = refl; seen = λ e. no-marks; hops = λ e. refl; constrained = λ e. refl }
 
@@ -61,31 +65,31 @@ module _ (g : Gathered) (es : List Object) (o : Object) (w : Gathers g es) where
       go (suc a) h = refl
 
   -- the first bar
-  pub gathers-bar : (n f : ℕ) → g .number ≡ 0 → n ≡ objectBar (record { earlier = es; object = o }) → (n ≡ 0 → ⊥)
-      → Gathers (record { number = n; place = g .place; seen = g .seen; hops = g .hops; flags = f }) (es ++ (o ∷ []))
+  pub gathers-bar : (n : ℕ) (f : Bool) → g .number ≡ 0 → n ≡ objectBar (record { earlier = es; object = o }) → (n ≡ 0 → ⊥)
+      → Gathers (record { number = n; place = g .place; seen = g .seen; hops = g .hops; constrained = f }) (es ++ (o ∷ []))
   gathers-bar n f z e h =
       let q : n ≡ barAmong (es ++ (o ∷ [])) = e ∙ sym (bar-snoc es o ∙ rw (← w .number, z)) in
       record { number = q; place = w .place ∙ sym (place-snoc es o (λ x. h (q ∙ x))); seen = λ x. absurd (h x); hops = λ x. absurd (h x); constrained = λ x. absurd (h x) }
 
   -- no bar
-  pub gathers-more : (s q : ℕ) → g .number ≡ 0 → 0 ≡ objectBar (record { earlier = es; object = o }) → Marks s (es ++ (o ∷ [])) → q ≡ hopsOf (hopCount (es ++ (o ∷ [])))
-      → Gathers (record { number = 0; place = g .place + 1; seen = s; hops = q; flags = bitOr (g .flags) (o .flags) }) (es ++ (o ∷ []))
-  gathers-more s q z e m p =
+  pub gathers-more : (s q : ℕ) (k : Bool) → k ≡ mandatory o → g .number ≡ 0 → 0 ≡ objectBar (record { earlier = es; object = o }) → Marks s (es ++ (o ∷ [])) → q ≡ hopsOf (hopCount (es ++ (o ∷ [])))
+      → Gathers (record { number = 0; place = g .place + 1; seen = s; hops = q; constrained = g .constrained || k }) (es ++ (o ∷ []))
+  gathers-more s q k a z e m p =
       let n : barAmong (es ++ (o ∷ [])) ≡ 0 = bar-snoc es o ∙ rw (← w .number, z) (sym e) in
-      let k : g .place ≡ length es = w .place ∙ place-none es (sym (w .number) ∙ z) in
+      let l : g .place ≡ length es = w .place ∙ place-none es (sym (w .number) ∙ z) in
       record {
         number = sym n;
-        place = rw (k, place-none (es ++ (o ∷ [])) n, length-append es (o ∷ []));
+        place = rw (l, place-none (es ++ (o ∷ [])) n, length-append es (o ∷ []));
         seen = λ x. m;
         hops = λ x. p;
-        constrained = λ x. flags-with (g .flags) es o (w .constrained z);
+        constrained = λ x. mandatory-with (g .constrained) k es o (w .constrained z) a;
       }
 
   -- an object of unknown type
-  pub gathers-unknown : g .number ≡ 0 → known (kind o) ≡ false
-      → Gathers (record { number = 0; place = g .place + 1; seen = g .seen; hops = g .hops; flags = bitOr (g .flags) (o .flags) }) (es ++ (o ∷ []))
-  gathers-unknown z k =
-      gathers-more (g .seen) (g .hops) z (bar-unknown es o k) (marks-unknown (g .seen) es o (w .seen z) k) (w .hops z ∙ sym (ap hopsOf (hops-unknown es o k)))
+  pub gathers-unknown : (k : Bool) → k ≡ mandatory o → g .number ≡ 0 → known (kind o) ≡ false
+      → Gathers (record { number = 0; place = g .place + 1; seen = g .seen; hops = g .hops; constrained = g .constrained || k }) (es ++ (o ∷ []))
+  gathers-unknown k a z u =
+      gathers-more (g .seen) (g .hops) k a z (bar-unknown es o u) (marks-unknown (g .seen) es o (w .seen z) u) (w .hops z ∙ sym (ap hopsOf (hops-unknown es o u)))
 
 -- an object without a bar is of a use that was not seen
 pub bar-fresh : (es : List Object) (o : Object) → known (kind o) ≡ true → objectBar (record { earlier = es; object = o }) ≡ 0 → anyOf (sameUse o) es ≡ false
@@ -106,7 +110,7 @@ gathers-refused g os w h = rw (w .number, w .place) (go (barAmong os) (λ e. h (
     go zero h = absurd (h refl)
     go (suc n) h = refl
 
-pub gathers-whole : (g : Gathered) (os : List Object) → Gathers g os → g .number ≡ 0 → WellFormed (g .place) (isSet (g .flags / 2 % 2)) (g .hops) ≡ readingOf (wholeReading os)
+pub gathers-whole : (g : Gathered) (os : List Object) → Gathers g os → g .number ≡ 0 → WellFormed (g .place) (g .constrained) (g .hops) ≡ readingOf (wholeReading os)
 gathers-whole g os w z =
     let n : barAmong os ≡ 0 = sym (w .number) ∙ z in
     rw (w .place, w .constrained z, w .hops z, place-none os n, n)

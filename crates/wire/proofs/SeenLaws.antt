@@ -9,7 +9,7 @@ use lib.Dec.{eqb, ltb, leb}
 use lib.Pow.{pow-pos, pow-lt, pow-add, shl-exact, shl-shr}
 use lib.Bits.{bitOr, or-shr, or-mod, or-zero-r}
 use borrow.Author.Tests.{eq-eqb, ne-eqb, eqb-true, eqb-false, ltb-true, ltb-false, leb-true}
-use Rattle.model.specs.Number.{isSet, anyOf}
+use Rattle.model.specs.Number.{anyOf}
 use Rattle.model.specs.Object.{Object, bitC, kind, known}
 use Rattle.model.specs.Reading.{sameUse}
 use Rattle.model.proofs.BoolLaws.{both}
@@ -17,8 +17,6 @@ use Rattle.model.proofs.ListLaws.{any-append}
 use Rattle.model.proofs.TypeLaws.{known-types}
 use Rattle.wire.specs.Row.{hasBit}
 use Rattle.wire.specs.Seen.{useIndex, Marks}
-use Rattle.wire.specs.Reading.{constrains}
-use Rattle.wire.proofs.HeaderLaws.{constraint-by}
 
 -- ---- a bit set in a number
 
@@ -102,20 +100,3 @@ marks-unknown n es a m u o h = rw (any-append (sameUse o) es (a ∷ []), ← m o
   where
     other : sameUse o a ≡ false
     other = rw (ne-eqb (a .type) (o .type) (λ q. true≢false (sym (rw q h) ∙ u)))
-
--- ---- the flags of several objects
-
--- some object is a constraint where the flags of all, together, have C
-pub flags-with : (n : ℕ) (es : List Object) (a : Object) → isSet (n / 2 % 2) ≡ anyOf constrains es → isSet (bitOr n (a .flags) / 2 % 2) ≡ anyOf constrains (es ++ (a ∷ []))
-flags-with n es a e =
-    rw (any-append constrains es (a ∷ []), or-false (constrains a), ← e, ← constraint-by (a .flags) (a .mode), or-bit n (a .flags) 1)
-    (go (n / 2 % 2) (a .flags / 2 % 2) (omega arith) (omega arith))
-  where
-    go : (x y : ℕ) → x < 2 → y < 2 → eqb (bitOr x y) 1 ≡ eqb x 1 || eqb y 1
-    go zero zero h l = refl
-    go zero (suc zero) h l = refl
-    go zero (suc (suc y)) h l = absurd (omega arith)
-    go (suc zero) zero h l = refl
-    go (suc zero) (suc zero) h l = refl
-    go (suc zero) (suc (suc y)) h l = absurd (omega arith)
-    go (suc (suc x)) y h l = absurd (omega arith)

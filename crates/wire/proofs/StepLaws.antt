@@ -32,7 +32,7 @@ abbrev tested : (ended short over : Bool) → List ℕ → Cursor → Step
 tested a b c bs p = cond a End (cond b CutShort (cond c CutShort (objectAt bs (p .at) (getD bs (p .at + 3) 0))))
 
 found-by : (bs : List ℕ) (p : Cursor) (h : Header) (start end : ℕ) (n : Cursor) (a b c : Bool)
-    → leb (length bs) (p .at) ≡ a → ltb (length bs - p .at) 4 ≡ b → ltb (length bs - (p .at + 4)) (getD bs (p .at + 3) 0) ≡ c
+    → leb (length bs) (p .at) ≡ a → ltb (length bs) (p .at + 4) ≡ b → ltb (length bs) (p .at + 4 + getD bs (p .at + 3) 0) ≡ c
     → tested a b c bs p ≡ Found h start end n → At bs p h start end n
 found-by bs p h start end n true b c ha hb hc e = absurd (let z : _≡_ {A = ℕ} 0 1 = cc in omega arith)
 found-by bs p h start end n false true c ha hb hc e = absurd (let z : _≡_ {A = ℕ} 0 1 = cc in omega arith)
@@ -46,7 +46,7 @@ found-by bs p h start end n false false false ha hb hc e =
       start-at = s;
       end-at = omega arith;
       next-at = ap (λ x. x .at) q ∙ sym d;
-      within = omega (arith, leb-false (length bs) (p .at) ha, ltb-false (length bs - p .at) 4 hb, ltb-false (length bs - (p .at + 4)) (getD bs (p .at + 3) 0) hc);
+      within = omega (arith, leb-false (length bs) (p .at) ha, ltb-false (length bs) (p .at + 4) hb, ltb-false (length bs) (p .at + 4 + getD bs (p .at + 3) 0) hc);
     }
 
 pub found : (bs : List ℕ) (p : Cursor) {h : Header} {start end : ℕ} {n : Cursor} → stepAt bs p ≡ Found h start end n → At bs p h start end n
@@ -77,20 +77,20 @@ few (a ∷ b ∷ []) h l = refl
 few (a ∷ b ∷ c ∷ []) h l = refl
 few (a ∷ b ∷ c ∷ d ∷ bs) h l = absurd (omega arith)
 
-over : (bs : List ℕ) (at : ℕ) → at + 4 ≤ length bs → length bs - (at + 4) < getD bs (at + 3) 0 → split (drop at bs) ≡ none
+over : (bs : List ℕ) (at : ℕ) → at + 4 ≤ length bs → length bs < at + 4 + getD bs (at + 3) 0 → split (drop at bs) ≡ none
 over bs at h l =
     let past : length (drop (at + 4) bs) < getD bs (at + 3) 0 = rw length-drop (omega arith) in
     rw (header-at bs at h, split-step (getD bs at 0) (getD bs (at + 1) 0) (getD bs (at + 2) 0) (getD bs (at + 3) 0) (drop (at + 4) bs), lt-leb (getD bs (at + 3) 0) (length (drop (at + 4) bs)) past)
 
-short-by : (bs : List ℕ) (p : Cursor) (a b c : Bool) → leb (length bs) (p .at) ≡ a → ltb (length bs - p .at) 4 ≡ b
-    → ltb (length bs - (p .at + 4)) (getD bs (p .at + 3) 0) ≡ c → tested a b c bs p ≡ CutShort → split (drop (p .at) bs) ≡ none
+short-by : (bs : List ℕ) (p : Cursor) (a b c : Bool) → leb (length bs) (p .at) ≡ a → ltb (length bs) (p .at + 4) ≡ b
+    → ltb (length bs) (p .at + 4 + getD bs (p .at + 3) 0) ≡ c → tested a b c bs p ≡ CutShort → split (drop (p .at) bs) ≡ none
 short-by bs p true b c ha hb hc e = absurd (let z : _≡_ {A = ℕ} 0 1 = cc in omega arith)
 short-by bs p false true c ha hb hc e =
     let m = leb-false (length bs) (p .at) ha in
-    let l = ltb-true (length bs - p .at) 4 hb in
+    let l = ltb-true (length bs) (p .at + 4) hb in
     few (drop (p .at) bs) (rw length-drop (omega arith)) (rw length-drop (omega arith))
 short-by bs p false false true ha hb hc e =
-    over bs (p .at) (omega (arith, leb-false (length bs) (p .at) ha, ltb-false (length bs - p .at) 4 hb)) (ltb-true (length bs - (p .at + 4)) (getD bs (p .at + 3) 0) hc)
+    over bs (p .at) (omega (arith, leb-false (length bs) (p .at) ha, ltb-false (length bs) (p .at + 4) hb)) (ltb-true (length bs) (p .at + 4 + getD bs (p .at + 3) 0) hc)
 short-by bs p false false false ha hb hc e = absurd (let z : _≡_ {A = ℕ} 0 1 = cc in omega arith)
 
 -- ---- the objects from a cursor on
@@ -129,7 +129,7 @@ split-short bs p e = short-by bs p _ _ _ refl refl refl e
 pub split-end : (bs : List ℕ) (p : Cursor) → stepAt bs p ≡ End → split (drop (p .at) bs) ≡ some []
 unfolding stepAt split splitUpTo
 split-end bs p e =
-    let l : length bs ≤ p .at = ended-by bs p (leb (length bs) (p .at)) (ltb (length bs - p .at) 4) (ltb (length bs - (p .at + 4)) (getD bs (p .at + 3) 0)) refl e in
+    let l : length bs ≤ p .at = ended-by bs p (leb (length bs) (p .at)) (ltb (length bs) (p .at + 4)) (ltb (length bs) (p .at + 4 + getD bs (p .at + 3) 0)) refl e in
     rw (drop-of-length-le bs l)
 
 -- the bytes from a cursor on: every object makes them fewer

@@ -4,6 +4,7 @@ use Prim.Native.Nat.{ℕ, suc, _+_, _-_, _≤_, _<_}
 use native.Mathlib.Omega.{arith}
 use mathlib.Core.List.{List, [], _∷_}
 use mathlib.Core.Bool.{true, false}
+use mathlib.Core.Logic.{_⊎_, inl, inr}
 use lib.ListN.{length, take, drop, getD, length-drop, drop-of-length-le}
 use lib.Seq.{take-all, getD-drop, drop-drop}
 use lib.Dec.{eqb}
@@ -43,28 +44,52 @@ module _ (s : List ℕ) (at : ℕ) (l : at ≤ length s) where
   at-byte = getD-drop at s 1 0
 
   stays : tlvsFit (drop at s) ≡ eqb (length (drop at s)) 0 → StepsOver s at at
-  stays e = record { inside = l; forward = omega arith; rest = refl; stay = λ z. rw (← left-drop) e }
+  stays e = record { inside = l; forward = inl refl; rest = refl; stay = λ z. rw (← left-drop) e }
 
   -- no bytes are left, or a lone one
-  pub steps-few : length s - at < 2 → StepsOver s at at
-  steps-few h = stays (tlvs-few (drop at s) (rw left-drop h))
+  pub steps-few : length s < at + 2 → StepsOver s at at
+  steps-few h = stays (tlvs-few (drop at s) (rw left-drop (omega arith)))
 
   -- a TLV that overruns
-  pub steps-over : 2 ≤ length s - at → length s - at - 2 < getD s (at + 1) 0 → StepsOver s at at
-  steps-over h o = stays (tlvs-over (drop at s) (rw left-drop h) (rw (left-drop, at-byte) o))
+  pub steps-over : at + 2 ≤ length s → length s < at + getD s (at + 1) 0 + 2 → StepsOver s at at
+  steps-over h o = stays (tlvs-over (drop at s) (rw left-drop (omega arith)) (rw (left-drop, at-byte) (omega arith)))
 
   -- a TLV that is whole
-  pub steps-one : 2 ≤ length s - at → getD s (at + 1) 0 ≤ length s - at - 2 → StepsOver s at (at + getD s (at + 1) 0 + 2)
+  pub steps-one : at + 2 ≤ length s → at + getD s (at + 1) 0 + 2 ≤ length s → StepsOver s at (at + getD s (at + 1) 0 + 2)
   steps-one h f =
       let n = getD s (at + 1) 0 in
-      let d : tlvsFit (drop (n + 2) (drop at s)) ≡ tlvsFit (drop at s) = rw (← at-byte) (tlvs-behind (drop at s) (rw left-drop h) (rw (left-drop, at-byte) f)) in
+      let d : tlvsFit (drop (n + 2) (drop at s)) ≡ tlvsFit (drop at s) = rw (← at-byte) (tlvs-behind (drop at s) (rw left-drop (omega arith)) (rw (left-drop, at-byte) (omega arith))) in
       let e : at + n + 2 ≡ at + (n + 2) = omega arith in
-      record { inside = omega arith; forward = omega arith; rest = rw (e, ← drop-drop (n + 2) at s) d; stay = λ z. absurd (omega arith) }
+      record { inside = f; forward = inr (omega arith); rest = rw (e, ← drop-drop (n + 2) at s) d; stay = λ z. absurd (omega arith) }
+
+-- a step of two bytes or more behind none or such a one, and the other way round
+forward-then : (a b c : ℕ) → (b ≡ a) ⊎ (a + 2 ≤ b) → (c ≡ b) ⊎ (b + 2 ≤ c) → (c ≡ a) ⊎ (a + 2 ≤ c)
+forward-then a b c (inl p) (inl q) = inl (q ∙ p)
+forward-then a b c (inl p) (inr q) = inr (omega arith)
+forward-then a b c (inr p) (inl q) = inr (omega arith)
+forward-then a b c (inr p) (inr q) = inr (omega arith)
+
+-- no step back
+pub not-back : (a b : ℕ) → (b ≡ a) ⊎ (a + 2 ≤ b) → a ≤ b
+not-back a b (inl p) = omega arith
+not-back a b (inr p) = omega arith
 
 -- steps behind steps
 pub steps-then : (s : List ℕ) (a b c : ℕ) → StepsOver s a b → StepsOver s b c → StepsOver s a c
-steps-then s a b c v w =
-    record { inside = w .inside; forward = omega (arith, v .forward, w .forward); rest = w .rest ∙ v .rest; stay = λ z. v .stay (omega (arith, v .forward, w .forward)) }
+steps-then s a b c v w = record {
+  inside = w .inside;
+  forward = forward-then a b c (v .forward) (w .forward);
+  rest = w .rest ∙ v .rest;
+  stay = λ z. v .stay (omega (arith, not-back a b (v .forward), not-back b c (w .forward)));
+}
+
+-- a step over some bytes leaves at least two fewer
+pub steps-least : (s : List ℕ) (at : ℕ) → StepsOver s 0 at → (at ≡ 0 → ⊥) → 2 ≤ at
+steps-least s at w h = go (w .forward)
+  where
+    go : (at ≡ 0) ⊎ (2 ≤ at) → 2 ≤ at
+    go (inl p) = absurd (h p)
+    go (inr p) = p
 
 -- the rest as a part of a slice
 pub steps-rest : (s : List ℕ) (at : ℕ) → StepsOver s 0 at → tlvsFit (take (length s - at) (drop at s)) ≡ tlvsFit s

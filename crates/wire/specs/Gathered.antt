@@ -1,29 +1,29 @@
 -- Inside the crate: what the reading pass has gathered of the objects so far.
 use mathlib.Core.Path.{_≡_}
-use Prim.Native.Nat.{ℕ, _/_, _%_}
+use Prim.Native.Nat.{ℕ}
 use mathlib.Core.Bool.{Bool, cond, not}
 use mathlib.Core.List.{List, []}
 use mathlib.Core.Option.{some}
 use lib.ListN.{drop}
-use Rattle.model.specs.Number.{isSet, anyOf, firstOf, indexOf}
+use Rattle.model.specs.Number.{anyOf, firstOf, indexOf}
 use Rattle.model.specs.Object.{Object, split, standings}
 use Rattle.model.specs.Reading.{isNone, noPlace, objectBar, readObjects}
 use Rattle.model.specs.Reading as model
-use Rattle.model.specs.Constraint.{hopCount}
+use Rattle.model.specs.Constraint.{hopCount, mandatory}
 use Rattle.wire.specs.declared.objects.Cursor.{Cursor}
 use Rattle.wire.specs.declared.container.Gathered.{Gathered}
 use Rattle.wire.specs.declared.container.Reading.{Reading}
 use Rattle.wire.specs.declared.container.Reading.the-variants.{Refused}
 use Rattle.wire.specs.Seen.{Marks}
-use Rattle.wire.specs.Reading.{hopsOf, constrains}
+use Rattle.wire.specs.Reading.{hopsOf}
 
--- the first bar among the objects, with its index; as long as there is none, the number of objects in its place, the uses seen, the count of the HP metric, and whether some are constraints
+-- the first bar among the objects, with its index; as long as there is none, the number of objects in its place, the uses seen, the count of the HP metric, and whether some are mandatory constraints
 pub record Gathers (g : Gathered) (es : List Object) : Type 0 where
   pub number : g .number ≡ firstOf objectBar (standings [] es)
   pub place : g .place ≡ indexOf objectBar (standings [] es)
   pub seen : g .number ≡ 0 → Marks (g .seen) es
   pub hops : g .number ≡ 0 → g .hops ≡ hopsOf (hopCount es)
-  pub constrained : g .number ≡ 0 → isSet (g .flags / 2 % 2) ≡ anyOf constrains es
+  pub constrained : g .number ≡ 0 → g .constrained ≡ anyOf mandatory es
 
 -- the reading of a container whose objects are whole
 abbrev pub wholeReading : List Object → model.Reading

@@ -1,13 +1,11 @@
 -- A container that is read, in the enum of code: document 01's number and values for each case.
 use Prim.Native.Nat.{ℕ, suc}
-use mathlib.Core.Bool.{Bool}
 use lib.ListN.{length}
 use Rattle.model.specs.declared.Quantity.{Quantity}
 use Rattle.model.specs.declared.Quantity.the-variants.{Known, Unknown}
 use Rattle.model.specs.Number.{anyOf}
-use Rattle.model.specs.Object.{Object, role, isConstraint}
 use Rattle.model.specs.Reading as model
-use Rattle.model.specs.Constraint.{hopCount}
+use Rattle.model.specs.Constraint.{hopCount, mandatory}
 use Rattle.wire.specs.declared.container.Reading.{Reading}
 use Rattle.wire.specs.declared.container.Reading.the-variants.{Refused, WellFormed}
 
@@ -16,11 +14,7 @@ abbrev pub hopsOf : Quantity → ℕ
 hopsOf (Known v) = suc v
 hopsOf Unknown = 0
 
--- an object that is a constraint
-abbrev pub constrains : Object → Bool
-constrains o = isConstraint (role o)
-
--- refused by a bar at the index of its object; or well-formed, with the number of objects, whether some are constraints, and the count of the HP metric
+-- refused by a bar at the index of its object; or well-formed, with the number of objects, whether some are mandatory constraints, and the count of the HP metric
 abbrev pub readingOf : model.Reading → Reading
 readingOf (model.refused n p) = Refused n p
-readingOf (model.wellFormed os) = WellFormed (length os) (anyOf constrains os) (hopsOf (hopCount os))
+readingOf (model.wellFormed os) = WellFormed (length os) (anyOf mandatory os) (hopsOf (hopCount os))

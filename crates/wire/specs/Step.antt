@@ -26,8 +26,8 @@ objectAt bs at size = Found (headerAt bs at) (at + 4) (at + 4 + size) (record { 
 unfoldable pub stepAt : List ℕ → Cursor → Step
 stepAt bs p =
     cond (leb (length bs) (p .at)) End
-    (cond (ltb (length bs - p .at) 4) CutShort
-    (cond (ltb (length bs - (p .at + 4)) (getD bs (p .at + 3) 0)) CutShort
+    (cond (ltb (length bs) (p .at + 4)) CutShort
+    (cond (ltb (length bs) (p .at + 4 + getD bs (p .at + 3) 0)) CutShort
     (objectAt bs (p .at) (getD bs (p .at + 3) 0))))
 
 -- the object with a header and a body

@@ -48,7 +48,7 @@ fn repeat_or(seen: bool, number: u8) -> u8
 }
 
 // The lowest of 15, 16 and 17 at an object whose use was seen before it or not; 0 for none.
-pub fn object_bar(header: Header, body: &[u8], seen: bool) -> u8
+pub(crate) fn object_bar(header: Header, body: &[u8], seen: bool) -> u8
     ensures { λ r. ⌜ ((es : List Object) → (known (kindOf (header .mctype)) ≡ true → seen ≡ anyOf (sameUse (objectOf header (now (body .entry)))) es)
         → r ≡ objectBar (record { earlier = es; object = objectOf header (now (body .entry)) })) ⌝ }
 {

@@ -13,15 +13,16 @@ fn behind_tlv(tlvs: &[u8], at: usize) -> usize
     requires { ⌜ at ≤ length (now tlvs) ⌝ }
     ensures { λ r. ⌜ StepsOver (now (tlvs .entry)) at r ⌝ }
 {
-    let left = tlvs.len() - at;
-    if left < 2 {
+    let n = tlvs.len();
+    if n < at + 2 {
         return at;
     }
     let size = tlvs[at + 1] as usize;
-    if left - 2 < size {
+    let end = at + size + 2;
+    if n < end {
         return at;
     }
-    at + size + 2
+    end
 }
 
 // The index behind two TLVs, or those of them that are whole.

@@ -20,7 +20,7 @@ use crate::seen;
 use crate::table;
 
 // A container that is read: refused by a bar, at the object of index place (65535 for none); or well-formed, with the number
-// of its objects, whether it has constraints, and for their tests one more than the count of its HP metric, 0 for none.
+// of its objects, whether it has mandatory constraints, and for their tests one more than the count of its HP metric, 0 for none.
 pub enum Reading {
     Refused {
         number: u8,
@@ -34,13 +34,13 @@ pub enum Reading {
 }
 
 // What is gathered of the objects up to the first with a bar: its number, or 0; its index, or the number of objects; the
-// uses seen; one more than the count of the HP metric, 0 for none; the flags of all. Numbers alone stay in registers.
+// uses seen; one more than the count of the HP metric, 0 for none; whether some are mandatory constraints.
 pub struct Gathered {
     pub number: u8,
     pub place: u16,
     pub seen: u16,
     pub hops: u16,
-    pub flags: u8,
+    pub constrained: bool,
 }
 
 // Bar 13.
@@ -75,14 +75,14 @@ fn gather(g: Gathered, header: Header, body: &[u8]) -> Gathered
     requires { ⌜ g .number ≡ 0 ⌝ }
     ensures { λ r. ⌜ ((es : List Object) → Gathers g es → Gathers r (es ++ (objectOf header (now (body .entry)) ∷ []))) ⌝ }
 {
-    let flags = g.flags | header.flags;
+    let constrained = g.constrained | objects::is_mandatory(header);
     if !table::is_known(header.mctype) {
         return Gathered {
             number: 0,
             place: g.place + 1,
             seen: g.seen,
             hops: g.hops,
-            flags,
+            constrained,
         };
     }
     let number = bars::object_bar(header, body, seen::has(g.seen, header));
@@ -92,7 +92,7 @@ fn gather(g: Gathered, header: Header, body: &[u8]) -> Gathered
             place: g.place,
             seen: g.seen,
             hops: g.hops,
-            flags,
+            constrained,
         };
     }
     Gathered {
@@ -100,7 +100,7 @@ fn gather(g: Gathered, header: Header, body: &[u8]) -> Gathered
         place: g.place + 1,
         seen: seen::with(g.seen, header),
         hops: hops_with(g.hops, header, body),
-        flags,
+        constrained,
     }
 }
 
@@ -111,7 +111,7 @@ fn conclude(g: Gathered) -> Reading
 {
     Reading::WellFormed {
         count: g.place,
-        constrained: g.flags / 2 % 2 == 1,
+        constrained: g.constrained,
         hops: g.hops,
     }
 }
@@ -165,7 +165,7 @@ fn read_objects(container: &[u8]) -> Reading
         place: 0,
         seen: 0,
         hops: 0,
-        flags: 0,
+        constrained: false,
     };
     loop {
         match objects::next(container, cursor) {

@@ -16,6 +16,7 @@ pub use objects::Header;
 pub use objects::Step;
 pub use objects::first;
 pub use objects::is_constraint;
+pub use objects::is_mandatory;
 pub use objects::is_recorded;
 pub use objects::next;
 pub use table::Row;

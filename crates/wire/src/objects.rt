@@ -1,7 +1,9 @@
 // The step from one object of a container to the next, which every pass over a container takes.
 ghost use mathlib.Core.Path.{_≡_};
+ghost use mathlib.Core.List.{[]};
 ghost use Rattle.model.specs.Object.{isConstraint, isRecorded, roleOf};
-ghost use Rattle.wire.specs.Step.{firstCursor, stepAt};
+ghost use Rattle.model.specs.Constraint.{mandatory};
+ghost use Rattle.wire.specs.Step.{firstCursor, stepAt, objectOf};
 
 // Header bytes 0 to 2 of an object: its type (Routing-MC-Type); the flags P, C and O; the mode R, A and Prec.
 pub struct Header {
@@ -44,15 +46,15 @@ pub fn next(container: &[u8], cursor: Cursor) -> Step
     if n <= at {
         return Step::End;
     }
-    if n - at < 4 {
+    let start = at + 4;
+    if n < start {
         return Step::CutShort;
     }
     let size = container[at + 3] as usize;
-    let start = at + 4;
-    if n - start < size {
+    let end = start + size;
+    if n < end {
         return Step::CutShort;
     }
-    let end = start + size;
     Step::Found {
         header: Header {
             mctype: container[at],
@@ -70,6 +72,13 @@ pub fn is_constraint(header: Header) -> bool
     ensures { λ r. ⌜ r ≡ isConstraint (roleOf (header .flags) (header .mode)) ⌝ }
 {
     header.flags / 2 % 2 == 1
+}
+
+// Whether an object is a mandatory constraint.
+pub fn is_mandatory(header: Header) -> bool
+    ensures { λ r. ⌜ r ≡ mandatory (objectOf header []) ⌝ }
+{
+    is_constraint(header) & (header.flags % 2 != 1)
 }
 
 // Whether an object is a recorded metric.

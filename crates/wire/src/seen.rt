@@ -18,7 +18,7 @@ fn use_index(header: Header) -> usize
 }
 
 // Whether the use of an object of known type was seen.
-pub fn has(seen: u16, header: Header) -> bool
+pub(crate) fn has(seen: u16, header: Header) -> bool
     ensures { λ r. ⌜ ((es : List Object) → Marks seen es → known (kindOf (header .mctype)) ≡ true → r ≡ anyOf (sameUse (objectOf header [])) es) ⌝ }
 {
     let k = use_index(header);
@@ -29,7 +29,7 @@ pub fn has(seen: u16, header: Header) -> bool
 }
 
 // The uses seen, with that of one object more; types behind the table have no bit.
-pub fn with(seen: u16, header: Header) -> u16
+pub(crate) fn with(seen: u16, header: Header) -> u16
     ensures { λ r. ⌜ ((es : List Object) (b : List ℕ) → Marks seen es → Marks r (es ++ (objectOf header b ∷ []))) ⌝ }
 {
     let k = use_index(header);

@@ -3,8 +3,8 @@ use mathlib.Core.Path.{_∙_}
 use native.Mathlib.Omega.{arith}
 use borrow.Author.Needs.{needs}
 use lib.ListN.{length, length-take, length-drop}
-use Rattle.wire.proofs.TlvLaws.{steps-then, steps-all, steps-none, steps-rest}
-use Prim.Native.Nat.{ℕ, _<_}
+use Rattle.wire.proofs.TlvLaws.{steps-then, steps-least, steps-all, steps-none, steps-rest}
+use Prim.Native.Nat.{ℕ, _/_, _<_}
 use borrow.Fn.Kinds.{In}
 use borrow.Fn.PlainCycle.{Measures, is, falls, and}
 use Rattle.wire.proofs.bodies.tlvs_fit.Reads as tlvs-fit
@@ -14,8 +14,9 @@ use Rattle.wire.proofs.bodies.behind_four.Reads as behind-four-reads
 use Rattle.wire.proofs.bodies.+tlvs_fit.{statement}
 use Rattle.wire.proofs.bodies.+tlvs_fit.Tie.{close}
 
+-- half the length, which falls since the length falls by two or more
 abbrev μ-tlvs-fit : Measures 1 tlvs-fit-kinds.ps ℕ
-μ-tlvs-fit κs a = length (a .0 .now)
+μ-tlvs-fit κs a = length (a .0 .now) / 2
 
 abbrev tlvs-fit-at : ℕ → In 1 tlvs-fit-kinds.ps
 tlvs-fit-at t = and 1 tlvs-fit-kinds.ps (is 1 tlvs-fit-kinds.ps μ-tlvs-fit t) tlvs-fit.Pre
@@ -86,7 +87,11 @@ tlvs-fit-tlvs-fit-requires : (t : ℕ) → tlvs-fit-lts.Need-tlvs-fit-requires (
   tlvs-fit-below t,
   tlvs-fit.Post,
 ) (tlvs-fit-at t) tlvs-fit.Post
-tlvs-fit-tlvs-fit-requires t c κs = (simp (length-take, length-drop) (omega (arith, c .before .before .before .behind-four2 .ensures .inside, c .before .before .before .before .before .before .pre .0)), tt)
+tlvs-fit-tlvs-fit-requires t c κs =
+    let tested = c .before in
+    let stepped = tested .before .before in
+    let steps = steps-then _ _ _ _ (stepped .before .behind-four .ensures) (stepped .behind-four2 .ensures) in
+    (simp (length-take, length-drop) (omega (arith, steps .inside, steps-least _ _ steps (tested .if2 .left), stepped .before .before .before .pre .0)), tt)
 
 tlvs-fit-returns-3 : (t : ℕ) → tlvs-fit-lts.Need-returns-3 (
   behind-four-reads.Asked,

@@ -4,7 +4,7 @@ use Rattle.wire.proofs.container.conclude.Statement.{statement}
 use Rattle.wire.proofs.container.conclude.Tie as tie
 
 returns : tie.Need-returns
-returns c = λ os w. gathers-whole _ os w (c .before .pre)
+returns c = λ os w. gathers-whole _ os w (c .pre)
 
 pub conclude-spec : {M : Type 1} → statement M
 conclude-spec = tie.close (tie.spec returns)

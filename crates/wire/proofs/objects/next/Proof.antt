@@ -10,9 +10,6 @@ returns : tie.Need-returns
 unfolding stepAt
 returns c = simp (le-leb _ _ (c .if1 .taken))
 
-sub-if2 : tie.Need-sub-if2
-sub-if2 c = search needs
-
 returns-2 : tie.Need-returns-2
 unfolding stepAt
 returns-2 c = simp (lt-leb _ _ (c .before .if1 .left), lt-ltb _ _ (c .if2 .taken))
@@ -29,15 +26,12 @@ cast-size c = omega (arith, c .shared-slice-known .given (c .before .before .bef
 add-start : tie.Need-add-start
 add-start c = search needs
 
-sub-if3 : tie.Need-sub-if3
-sub-if3 c = search needs
-
 returns-3 : tie.Need-returns-3
 unfolding stepAt
 returns-3 c = simp (lt-leb _ _ (c .before .before .before .if1 .left), le-ltb _ _ (c .before .before .if2 .left), lt-ltb _ _ (c .if3 .taken))
 
 add-end : tie.Need-add-end
-add-end c = search needs
+add-end c = omega (arith, c .shared-slice-known .given (c .before .before .before .args .cursor .at + 3))
 
 shared-slice-read-t11 : tie.Need-shared-slice-read-t11
 shared-slice-read-t11 c = search needs
@@ -63,15 +57,13 @@ next-spec =
     tie.close
     (tie.spec
     returns
-    sub-if2
+    add-start
     returns-2
     add-size
     shared-slice-read-size
     cast-size
-    add-start
-    sub-if3
-    returns-3
     add-end
+    returns-3
     shared-slice-read-t11
     add-t9
     shared-slice-read-t14
