@@ -16,6 +16,7 @@ use Rattle.model.specs.Reading.{tlvsUpTo, tlvsFit, fixedShape, shaped, c
 use Rattle.model.specs.Constraint.{hopCount, summary, met, mandatory, unknownMandatory, constraintBar}
 use Rattle.model.specs.Cut.{cutBody, cutObject, keepIf, cut}
 use Rattle.model.proofs.BoolLaws.{neither, or-left, or-middle}
+use Rattle.model.proofs.TypeLaws.{tlv-types}
 use Rattle.model.proofs.NumberLaws.{first-zero, isGiven, given-first, given-none}
 
 -- ---- the cut of a body and of a list
@@ -111,7 +112,7 @@ objectBar-cut : (es : List Object) (o : Object) → known (kind o) ≡ true → 
 unfolding objectBar
 objectBar-cut es o p e =
     let (m, s, r) = no-bar (cannotBe (role o) (row (kind o))) (shaped (role o) (row (kind o)) (o .body)) (anyOf (sameUse o) es) (rw p at e) in
-    rw (p, m, shaped-cut (role o) (kind o) (o .body) s, earlier-cut o p es, r)
+    rw (← tlv-types (o .type), p, m, shaped-cut (role o) (kind o) (o .body) s, earlier-cut o p es, r)
 
 -- a well-formed container, cut, is well-formed
 pub objectBars-cut : (es os : List Object) → firstOf objectBar (standings es os) ≡ 0 → firstOf objectBar (standings (cut es) (cut os)) ≡ 0
@@ -142,7 +143,7 @@ met-cut c s r (scalar etx) b = rw cutBody-whole
 
 constraintBar-cut : (c : Neighbour) (s : Summary) (o : Object) → constraintBar c s (cutObject o) ≡ constraintBar c s o
 unfolding constraintBar
-constraintBar-cut c s o = rw met-cut
+constraintBar-cut c s o = rw (← tlv-types (o .type), met-cut)
 
 pub unknown-kind : (k : Kind) → known k ≡ false → k ≡ unknown
 unknown-kind unknown e = refl

@@ -15,6 +15,7 @@ use Rattle.model.specs.Table.{row}
 use Rattle.model.specs.Update.{localValue, valueOr0, onTwo, clear0, clear1, combine1, aggregatedBody, constraintBody, recordedBody, addsNothing, nextBody, nextFlags, nextMode, updateObject, update}
 use Rattle.model.specs.ReadBack.{HeaderNext, HeadersNext}
 use Rattle.model.specs.Unknown.{Each, nil, cons, Placed}
+use Rattle.model.proofs.TypeLaws.{tlv-types}
 use Rattle.model.proofs.CutLaws.{unknown-kind}
 use Rattle.model.proofs.UpdateLaws.{scalar-tlvs}
 
@@ -99,7 +100,7 @@ unfolding updateObject roleOf
 placed own c o = record {
   type = refl;
   unknown = λ e. record { body = rw (unknown-kind (kind o) e) (nextBody-unknown own c (role o) (fieldA o) (o .body)); header = always (unknown-kind (kind o) e) (header own c o) };
-  tlvs = nextBody-tlvs own c (kind o) (role o) (fieldA o) (o .body);
+  tlvs = λ e. nextBody-tlvs own c (kind o) (role o) (fieldA o) (o .body) (tlv-types (o .type) ∙ e);
 }
   where
     always : kind o ≡ unknown → HeaderNext o (updateObject own c o) (isRecorded (role o) && addsNothing c (kind o)) → HeaderNext o (updateObject own c o) (isRecorded (role o))

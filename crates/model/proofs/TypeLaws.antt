@@ -11,8 +11,9 @@ use Rattle.model.specs.Object.{Object, isConstraint, isHp, Kind, unknown
 use Rattle.model.specs.Table.{row}
 use Rattle.model.specs.Reading.{cannotBe}
 use Rattle.model.specs.Constraint.{unknownMandatory}
+use Rattle.model.specs.Cut.{mayHaveTlvs}
 use Rattle.model.specs.Unknown.{isUnknownMandatory}
-use Rattle.model.specs.Exact.{KnownTypes, MisusedTypes}
+use Rattle.model.specs.Exact.{KnownTypes, TlvTypes, MisusedTypes}
 use Rattle.model.proofs.NumberLaws.{allBelow, below-all}
 
 pub beq-true : (a b : Bool) → Bool·beq a b ≡ true → a ≡ b
@@ -52,6 +53,16 @@ every-kind f h (scalar etx) = below-all 8 (λ t. f (kindOf t)) h 7 (omega arith)
 
 pub known-types : KnownTypes
 known-types = every-type (λ t. known (kindOf t)) (λ t. leb 1 t && leb t 7) below-8 (λ t l. past-kinds t l ∙ sym (rw (lt-leb t 7 (omega arith)) (and-false (leb 1 t))))
+
+-- TLVs stand in types 1 to 3
+tlvs-below : allBelow 8 (λ t. Bool·beq (row (kindOf t) .tlvs) (mayHaveTlvs t)) ≡ true
+unfolding kindOf
+tlvs-below = refl
+
+pub tlv-types : TlvTypes
+unfolding kindOf
+tlv-types = every-type (λ t. row (kindOf t) .tlvs) mayHaveTlvs tlvs-below
+    (λ t l. rw (List·getD-eq-default kinds unknown l, lt-leb t 3 (omega arith)) (sym (and-false (leb 1 t))))
 
 -- HP is type 3
 hp-below : allBelow 8 (λ t. Bool·beq (isHp (kindOf t)) (eqb t 3)) ≡ true

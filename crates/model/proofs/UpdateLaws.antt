@@ -12,8 +12,9 @@ use Rattle.model.specs.Number.{firstOf}
 use Rattle.model.specs.Object.{Object, fieldA, join, container, Kind, unknown, lql, node, scalar, Node, nsa, ne, hp, Scalar, throughput, latency, etx, known, kind, Role, constraint, recorded, aggregated, roleBits, roleOf, role}
 use Rattle.model.specs.Table.{row}
 use Rattle.model.specs.Update.{localValue, valueOr0, onTwo, clear0, clear1, combine1, aggregatedBody, constraintBody, addsNothing, nextBody, nextFlags, nextMode, updateObject, update, noEnergy, objectLeaf, tooLong, leafAnswer}
-use Rattle.model.specs.Cut.{cutBody, cutObject, keepIf, cut, cutContainer}
+use Rattle.model.specs.Cut.{mayHaveTlvs, cutBody, cutObject, keepIf, cut, cutContainer}
 use Rattle.model.proofs.NumberLaws.{first-zero}
+use Rattle.model.proofs.TypeLaws.{tlv-types}
 use Rattle.model.proofs.LeafLaws.{fits}
 use Rattle.model.proofs.CutLaws.{cutBody-byte0, cutBody-byte1}
 use Rattle.model.proofs.ReadingLaws.{cutContainer-container}
@@ -71,7 +72,7 @@ nextBody-cut own c k aggregated a b = aggregatedBody-cut k a (valueOr0 (localVal
 
 updateObject-cut : (own : Own) (c : Neighbour) (o : Object) → cutObject (updateObject own c o) ≡ updateObject own c (cutObject o)
 unfolding updateObject
-updateObject-cut own c o = rw (role-update own c o, nextBody-cut own c (kind o) (role o) (fieldA o) (o .body))
+updateObject-cut own c o = rw (← tlv-types (o .type), role-update own c o, nextBody-cut own c (kind o) (role o) (fieldA o) (o .body))
 
 pub update-cut : (own : Own) (c : Neighbour) (os : List Object) → cut (update own c os) ≡ update own c (cut os)
 unfolding cut updateObject
@@ -123,7 +124,7 @@ cut-length [] = omega arith
 cut-length (o ∷ os) = go (known (kind o)) (cut-length os)
   where
     go : (b : Bool) → length (join (cut os)) ≤ length (join os) → length (join (keepIf b (cutObject o) (cut os))) ≤ length (join (o ∷ os))
-    go true ih = simp length-append (omega (arith, cutBody-length (role o) (row (kind o) .tlvs) (o .body)))
+    go true ih = simp length-append (omega (arith, cutBody-length (role o) (mayHaveTlvs (o .type)) (o .body)))
     go false ih = simp length-append (omega arith)
 
 pub leafAnswer-cut : (own : Own) (c : Neighbour) (os : List Object) → leafAnswer own c os ≡ 0 → leafAnswer own c (cut os) ≡ 0

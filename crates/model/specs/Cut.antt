@@ -1,11 +1,15 @@
 -- Document 01's cut: a container without the objects of unknown type and without TLVs.
 use Prim.Native.Nat.{ℕ}
-use mathlib.Core.Bool.{Bool, true, false, cond}
+use mathlib.Core.Bool.{Bool, true, false, cond, _&&_}
 use mathlib.Core.List.{List, [], _∷_}
 use mathlib.Core.Option.{Option, none, some}
 use lib.ListN.{length, take}
+use lib.Dec.{leb}
 use Rattle.model.specs.Object.{Object, object, split, join, known, kind, Role, constraint, recorded, aggregated, role}
-use Rattle.model.specs.Table.{row}
+
+-- the types that can have TLVs: 1 (NSA), 2 (NE) and 3 (HP), by number and not by the table
+abbrev pub mayHaveTlvs : (type : ℕ) → Bool
+mayHaveTlvs t = leb 1 t && leb t 3
 
 -- NSA, NE and HP, as constraint or aggregated, keep the first two body bytes; every other body stays whole
 abbrev pub cutBody : Role → (tlvs : Bool) → List ℕ → List ℕ
@@ -15,7 +19,7 @@ cutBody aggregated t b = cond t (take 2 b) b
 
 -- an object with its body cut
 abbrev pub cutObject : Object → Object
-cutObject o = object (o .type) (o .flags) (o .mode) (cutBody (role o) (row (kind o) .tlvs) (o .body))
+cutObject o = object (o .type) (o .flags) (o .mode) (cutBody (role o) (mayHaveTlvs (o .type)) (o .body))
 
 -- an element that is kept or dropped
 abbrev pub keepIf {ℓ} : {A : Type ℓ} → Bool → A → List A → List A

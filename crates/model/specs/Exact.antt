@@ -16,6 +16,8 @@ use Rattle.model.specs.declared.Verdict.{Verdict}
 use Rattle.model.specs.declared.Verdict.the-variants.{Unbarred, Barred}
 use Rattle.model.specs.Number.{anyOf}
 use Rattle.model.specs.Object.{Object, bitC, bitR, Standing, standings, kindOf, known}
+use Rattle.model.specs.Table.{row}
+use Rattle.model.specs.Cut.{mayHaveTlvs}
 use Rattle.model.specs.Reading.{Reading, refused, wellFormed, reading, noPlace, misframed, runsPast, malformed, repeated, misused}
 use Rattle.model.specs.Constraint.{summary, unknownMandatory, unmet}
 use Rattle.model.specs.Rank.{infinite, resulting, rankTooHigh, aboveLowest}
@@ -179,6 +181,10 @@ ReadingsExact = (bs : List ℕ) → ReadingExact bs (reading bs)
 -- known types are 1 to 7
 abbrev pub KnownTypes : Type 0
 KnownTypes = (type : ℕ) → known (kindOf type) ≡ leb 1 type && leb type 7
+
+-- TLVs can stand in objects of types 1 to 3, by the table as by number
+abbrev pub TlvTypes : Type 0
+TlvTypes = (type : ℕ) → row (kindOf type) .tlvs ≡ mayHaveTlvs type
 
 -- bar 17 by numbers: a metric of type 1 (NSA) or 3 (HP) with R=1, or of type 6 (LQL) with R=0
 abbrev pub MisusedTypes : Type 0

@@ -1,6 +1,6 @@
 -- Demand 3: what is unknown changes no parent, rank, verdict, bit or count, but that an unknown mandatory constraint bars; what is passed on keeps it in its place.
 use mathlib.Core.Path.{_≡_}
-use Prim.Native.Nat.{ℕ}
+use Prim.Native.Nat.{ℕ, _+_, _≤_, _<_}
 use mathlib.Core.Bool.{Bool, true, false, not, _||_, _&&_}
 use mathlib.Core.List.{List, [], _∷_}
 use mathlib.Core.Option.{some}
@@ -13,12 +13,11 @@ use Rattle.model.specs.declared.Verdict.the-variants.{Unbarred}
 use Rattle.model.specs.declared.Answer.{Answer}
 use Rattle.model.specs.Number.{anyOf}
 use Rattle.model.specs.Object.{Object, bitC, bitO, split, known, kind, recorded, role, isRecorded}
-use Rattle.model.specs.Table.{row}
 use Rattle.model.specs.Reading.{wellFormed, reading}
 use Rattle.model.specs.Rank.{resulting}
 use Rattle.model.specs.Verdict.{containerOf, outside, verdict}
 use Rattle.model.specs.Choice.{Result, call}
-use Rattle.model.specs.Cut.{cutContainer}
+use Rattle.model.specs.Cut.{mayHaveTlvs, cutContainer}
 use Rattle.model.specs.Conditions.{objectsIn}
 use Rattle.model.specs.ReadBack.{HeaderNext}
 use Rattle.model.specs.Untouched.{PassedOn, passedOn}
@@ -54,7 +53,7 @@ pub record Unaltered (o p : Object) : Type 0 where
 pub record Placed (o p : Object) : Type 0 where
   pub type : p .type ≡ o .type
   pub unknown : known (kind o) ≡ false → Unaltered o p
-  pub tlvs : row (kind o) .tlvs ≡ true → (role o ≡ recorded → ⊥) → drop 2 (p .body) ≡ drop 2 (o .body)
+  pub tlvs : mayHaveTlvs (o .type) ≡ true → (role o ≡ recorded → ⊥) → drop 2 (p .body) ≡ drop 2 (o .body)
 
 -- the container passed on, and the parent's
 pub record KeepsPlaces (cs : List Candidate) (lent : List ℕ) (r : Result) : Type 0 where
@@ -115,7 +114,23 @@ Demand3Holds = (own : Own) (cs cs′ : List Candidate) (lent lent′ out out′ 
 abbrev pub PlacesKept : Type 0
 PlacesKept = (own : Own) (cs : List Candidate) (lent out : List ℕ) → PassedOn (call own cs lent out) → KeepsPlaces cs lent (call own cs lent out)
 
--- well-formed containers always have such a second call
+-- containers end to end: the first begins at an index, each other one where the one before it ends, the last ends at the end
+abbrev pub EndToEnd : (from end : ℕ) → List Candidate → Type 0
+EndToEnd n end [] = n ≡ end
+EndToEnd n end (c ∷ cs) = (c .start ≡ n) × EndToEnd (n + c .size) end cs
+
+-- each container has bytes of its own: they fill the lent run end to end, and none overlaps another
+pub record OwnBytes (lent : List ℕ) (cs : List Candidate) : Type 0 where
+  pub endToEnd : EndToEnd 0 (length lent) cs
+  pub apart : (i j : ℕ) (c d : Candidate) → i < j → getElem? cs i ≡ some c → getElem? cs j ≡ some d → c .start + c .size ≤ d .start
+
+-- well-formed containers always have such a second call, in which each cut container has bytes of its own
+pub record SecondCall (lent : List ℕ) (cs : List Candidate) : Type 0 where
+  pub candidates : List Candidate
+  pub bytes : List ℕ
+  pub beside : Each (CutBeside lent bytes) cs candidates
+  pub own : OwnBytes bytes candidates
+
+-- of any candidates
 abbrev pub SecondCallExists : Type 0
-SecondCallExists = (cs : List Candidate) (lent : List ℕ) → ((i : ℕ) (c : Candidate) → getElem? cs i ≡ some c → WellFormed lent c)
-    → (cs′ : List Candidate) × (lent′ : List ℕ) × Each (CutBeside lent lent′) cs cs′
+SecondCallExists = (cs : List Candidate) (lent : List ℕ) → ((i : ℕ) (c : Candidate) → getElem? cs i ≡ some c → WellFormed lent c) → SecondCall lent cs
