@@ -4,7 +4,8 @@ use Prim.Native.Nat.{ℕ, zero, suc, _+_, _*_, _/_, _%_, _^_, _≤_}
 use native.Mathlib.Omega.{arith}
 use mathlib.Core.Bool.{Bool, true, false, cond, _&&_}
 use mathlib.Core.List.{List, [], _∷_, _++_}
-use lib.ListN.{length, take, drop, take-append-drop, length-append}
+use mathlib.Core.Option.{some, Option·none-ne-some}
+use lib.ListN.{length, take, drop, getElem?, take-append-drop, length-append}
 use lib.Dec.{ltb, eqb}
 use borrow.Author.Tests.{le-ltb, ltb-true, ltb-false}
 use Rattle.model.specs.declared.Quantity.{Quantity}
@@ -205,6 +206,23 @@ module _ (own : Own) (c : Neighbour) (e : own .energy ≤ 255) (t : own .nodetyp
       (flags-byte (role o) (addsNothing c (kind o)) (o .flags)) (mode-byte (role o) (o .mode) m) (omega arith)
       (both-bytes body (join (update own c os)) (next-bytes (kind o) (role o) (fieldA o) (o .body) b) ih)
 
+-- the body of an object among objects that are bytes
+pub body-bytes : (os : List Object) (i : ℕ) (o : Object) → Bytes (join os) → getElem? os i ≡ some o → Bytes (o .body)
+unfolding join
+body-bytes [] i o h e = absurd (Option·none-ne-some o e)
+body-bytes (x ∷ os) i o h e =
+    let (a, m, r) = header-parts (x .type) (x .flags) (x .mode) (length (x .body)) (x .body ++ join os) h in
+    let (b, k) = part-bytes (x .body) (join os) r in
+    go i e b (λ j q. body-bytes os j o k q)
+  where
+    go : (i : ℕ) → getElem? (x ∷ os) i ≡ some o → Bytes (x .body) → ((j : ℕ) → getElem? os j ≡ some o → Bytes (o .body)) → Bytes (o .body)
+    go zero e b f = let q : x ≡ o = cc in rw q at b
+    go (suc j) e b f = f j e
+
+-- the data of a container of bytes
+pub data-bytes : (bs : List ℕ) (os : List Object) → Bytes bs → bs ≡ container os → Bytes (join os)
+data-bytes bs os h e = first-byte (length (join os)) (join os) (first-byte 2 (length (join os) ∷ join os) (subst (λ l. Bytes l) e h) .1) .1
+
 -- ---- the call
 
 pub passes-bytes : PassesBytes
@@ -213,8 +231,7 @@ passes-bytes own cs lent out h e p =
     let n = x .candidate .neighbour in
     let a = admitted own lent (x .candidate) (sym (nothing-bars own lent (x .candidate)) ∙ x .unbarred) in
     let r = reading-objects (containerOf lent (x .candidate)) (x .objects) (x .read) in
-    let b : Bytes (container (x .objects)) = subst (λ bs. Bytes bs) (r .whole) (take-bytes (x .candidate .size) (drop (x .candidate .start) lent) (drop-bytes (x .candidate .start) lent h)) in
-    let data′ = first-byte (length (join (x .objects))) (join (x .objects)) (first-byte 2 (length (join (x .objects)) ∷ join (x .objects)) b .1) .1 in
+    let data′ = data-bytes _ (x .objects) (take-bytes (x .candidate .size) (drop (x .candidate .start) lent) (drop-bytes (x .candidate .start) lent h)) (r .whole) in
     let l = fits own n (x .objects) (sym (leaf-is own cs lent out (p .unrefused) x) ∙ p .noLeaf) in
     let t = unrefused own cs lent out (p .unrefused) .knownType in
     rw (passed-is own cs lent out (p .unrefused) x (p .noLeaf))

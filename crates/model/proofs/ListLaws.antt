@@ -1,5 +1,5 @@
 -- Elements of lists, through map and append.
-use mathlib.Core.Path.{_≡_, refl, sym, _∙_}
+use mathlib.Core.Path.{_≡_, refl, sym, ap, _∙_}
 use Prim.Native.Nat.{ℕ, zero, suc, _-_, _≤_, _<_}
 use native.Mathlib.Omega.{arith}
 use mathlib.Core.Bool.{Bool, _||_, or-assoc}
@@ -12,6 +12,12 @@ pub at-below : {A : Type 0} (xs : List A) (i : ℕ) (x : A) → getElem? xs i �
 at-below [] i x e = absurd (Option·none-ne-some x e)
 at-below (y ∷ xs) zero x e = omega arith
 at-below (y ∷ xs) (suc i) x e = let h = at-below xs i x e in omega arith
+
+-- what stands at an index has others before and behind it
+pub at-split : {A : Type 0} (xs : List A) (i : ℕ) (x : A) → getElem? xs i ≡ some x → (es : List A) × (rest : List A) × (xs ≡ es ++ (x ∷ rest))
+at-split [] i x e = absurd (Option·none-ne-some x e)
+at-split (y ∷ xs) zero x e = let q : y ≡ x = cc in ([], xs, rw q)
+at-split (y ∷ xs) (suc i) x e = let (es, rest, q) = at-split xs i x e in (y ∷ es, rest, ap (λ l. y ∷ l) q)
 
 pub at-map : {A B : Type 0} (f : A → B) (xs : List A) (i : ℕ) (x : A) → getElem? xs i ≡ some x → getElem? (map f xs) i ≡ some (f x)
 at-map f [] i x e = absurd (Option·none-ne-some x e)

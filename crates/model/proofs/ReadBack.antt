@@ -1,25 +1,27 @@
 -- The written container reads back as the updated objects; no sum wraps.
 use mathlib.Core.Path.{_≡_, refl, sym, ap, _∙_}
-use Prim.Native.Nat.{ℕ, zero, suc, _+_, _^_, _≤_, _<_, min}
+use Prim.Native.Nat.{ℕ, zero, suc, _+_, _*_, _/_, _%_, _^_, _≤_, _<_, min}
 use native.Mathlib.Omega.{arith}
-use mathlib.Core.Bool.{true}
+use mathlib.Core.Bool.{Bool, true, false, cond}
 use mathlib.Core.List.{List, [], _∷_, _++_}
 use mathlib.Core.Option.{some, Option·none-ne-some}
 use lib.ListN.{length, getD, getElem?}
 use borrow.Author.Tests.{eq-eqb}
-use Rattle.model.specs.declared.Quantity.the-variants.{Known}
+use Rattle.model.specs.declared.Quantity.the-variants.{Known, Unknown}
 use Rattle.model.specs.declared.Own.{Own}
 use Rattle.model.specs.declared.Neighbour.{Neighbour}
-use Rattle.model.specs.Number.{number, firstOf}
-use Rattle.model.specs.Object.{Object, standings, fieldA, Scalar, throughput, latency, etx, node, scalar, hp, known, kind, aggregated, role}
+use Rattle.model.specs.Number.{isSet, number, firstOf}
+use Rattle.model.specs.Object.{Object, standings, fieldA, Kind, Node, nsa, ne, hp, Scalar, throughput, latency, etx, node, scalar, known, kind, aggregated, role}
 use Rattle.model.specs.Table.{row}
 use Rattle.model.specs.Reading.{fixedShape, objectBar}
 use Rattle.model.specs.Constraint.{linkValue}
 use Rattle.model.specs.Update.{localValue, combine, onTwo, clear0, combine1, widthOf, mostOf, aggregatedBody, updateObject}
-use Rattle.model.specs.ReadBack.{ReadsBack, Aggregates, NoSumWraps, CountsHop, AggregatesWhole}
-use Rattle.model.proofs.RoundTrip.{number-bigEndian}
+use Rattle.model.specs.ReadBack.{ReadsBack, Aggregates, NoSumWraps, CountsHop, Picked, PicksFlags, PicksEnergy, LinkWithin, AggregatesWhole}
+use Rattle.model.specs.RoundTrip.{Bytes}
+use Rattle.model.proofs.RoundTrip.{number-bigEndian, number-below}
 use Rattle.model.proofs.ReadingLaws.{reading-objects, reading-container}
-use Rattle.model.proofs.TabledLaws.{among-tabled, base-of, whole-of}
+use Rattle.model.proofs.TabledLaws.{at-tabled, base-of, whole-of}
+use Rattle.model.proofs.ByteLaws.{combine-within, body-bytes, data-bytes}
 use Rattle.model.proofs.UpdateLaws.{scalar-tlvs}
 use Rattle.model.proofs.ShapeLaws.{objectBars-update}
 use Rattle.model.proofs.OutgoingLaws.{passed-is}
@@ -45,8 +47,7 @@ module _ (own : Own) (c : Neighbour) (o : Object) (s : Scalar) (v : ℕ) (k : ki
   aggregates : Aggregates own c o s v
   aggregates = record {
     add = λ e. let m = sent 0 e (omega arith) in record { below = λ h. m ∙ omega arith; above = λ h. m ∙ omega arith };
-    larger = λ e h g. sent 1 e (omega arith);
-    smaller = λ e h g. sent 2 e (omega arith);
+    picked = λ h g. record { larger = λ e. sent 1 e (omega arith); smaller = λ e. sent 2 e (omega arith) };
   }
 
 pub no-sum-wraps : NoSumWraps
@@ -65,30 +66,77 @@ counts-hop own c o k r a h =
     let e : getD (updateObject own c o .body) 1 0 ≡ min 255 (getD (o .body) 1 0 + 1) = rw (k, r, a) (byte1-onTwo (clear0 hp) (combine1 hp 0 1) (o .body) h) in
     record { below = λ g. e ∙ omega arith; above = λ g. e ∙ omega arith }
 
--- ---- widths
+-- ---- flags and energy
 
--- what stands at an index has others before and behind it
-at-split : (os : List Object) (i : ℕ) (o : Object) → getElem? os i ≡ some o → (es : List Object) × (rest : List Object) × (os ≡ es ++ (o ∷ rest))
-at-split [] i o e = absurd (Option·none-ne-some o e)
-at-split (x ∷ os) zero o e = let q : x ≡ o = cc in ([], os, rw q)
-at-split (x ∷ os) (suc i) o e = let (es, rest, q) = at-split os i o e in (x ∷ es, rest, ap (λ l. x ∷ l) q)
+-- a value that A=1 or A=2 picks
+picks : (a most x v sent : ℕ) → sent ≡ combine a most x v → Picked a x v sent
+picks a most x v sent e = record { larger = λ q. e ∙ rw q; smaller = λ q. e ∙ rw q }
+
+-- a flag combined with another stays a flag
+flag-within : (a x v : ℕ) → combine a 1 (x % 2) (v % 2) ≤ 1
+flag-within a x v = combine-within a 1 (x % 2) (v % 2) (omega arith) (omega arith)
+
+pub picks-flags : PicksFlags
+unfolding updateObject localValue aggregatedBody
+picks-flags own c o k r h =
+    let a = fieldA o in
+    let y = getD (o .body) 1 0 in
+    let v = own .flags in
+    let high = combine a 1 (y / 2 % 2) (v / 2 % 2) in
+    let low = combine a 1 (y % 2) (v % 2) in
+    let p : v % 4 / 2 % 2 ≡ v / 2 % 2 = omega arith in
+    let q : v % 4 % 2 ≡ v % 2 = omega arith in
+    let d : getD (updateObject own c o .body) 1 0 ≡ combine1 nsa a (v % 4) y = rw (k, r) (byte1-onTwo (clear0 nsa) (combine1 nsa a (v % 4)) (o .body) h) in
+    let e : getD (updateObject own c o .body) 1 0 ≡ high * 2 + low = rw (p, q) at d in
+    let m = flag-within a (y / 2) (v / 2) in
+    let n = flag-within a y v in
+    record {
+      aggregator = picks a 1 (y / 2 % 2) (v / 2 % 2) _ (omega (arith, e, m, n));
+      overload = picks a 1 (y % 2) (v % 2) _ (omega (arith, e, m, n));
+      others = omega (arith, e, m, n);
+    }
+
+pub picks-energy : PicksEnergy
+unfolding updateObject localValue aggregatedBody
+picks-energy own c o v k r l h =
+    picks (fieldA o) 255 (getD (o .body) 1 0) v _ (rw (k, r, l) (byte1-onTwo (clear0 ne) (combine1 ne (fieldA o) v) (o .body) h))
+
+-- ---- widths and ranges
 
 -- an aggregated metric of known type has its fixed bytes
 fixed : (os : List Object) (i : ℕ) (o : Object) → firstOf objectBar (standings [] os) ≡ 0 → getElem? os i ≡ some o → role o ≡ aggregated → known (kind o) ≡ true
     → fixedShape (row (kind o)) (o .body) ≡ true
-fixed os i o z e r k =
-    let (es, rest, q) = at-split os i o e in
-    let h : firstOf objectBar (standings [] (es ++ (o ∷ rest))) ≡ 0 = ap (λ l. firstOf objectBar (standings [] l)) (sym q) ∙ z in
-    rw r at (among-tabled [] es o rest h k)
+fixed os i o z e r k = rw r at (at-tabled os i o z e k)
+
+node-base : (n : Node) → row (node n) .base ≡ 2
+node-base nsa = refl
+node-base ne = refl
+node-base hp = refl
+
+-- a known value is the number behind its bit
+within : (b : Bool) (x v most : ℕ) → x ≤ most → cond b (Known x) Unknown ≡ Known v → v ≤ most
+within true x v most h e = let q : x ≡ v = cc in omega arith
+within false x v most h e = absurd (let z : _≡_ {A = ℕ} 0 1 = cc in omega arith)
+
+-- a link's value within its type fits the field
+link-fits : (c : Neighbour) → LinkWithin c → (s : Scalar) (v : ℕ) → linkValue c s ≡ Known v → v ≤ mostOf s
+unfolding linkValue
+link-fits c w throughput v e = within (isSet (c .flags / 32 % 2)) (c .throughput) v 4294967295 (w .throughput) e
+link-fits c w latency v e = within (isSet (c .flags / 16 % 2)) (c .latency) v 4294967295 (w .latency) e
+link-fits c w etx v e = within (isSet (c .flags / 8 % 2)) (c .etx) v 65535 (w .etx) e
+
+-- bytes as many as the field has hold a number that fits it
+body-fits : (s : Scalar) (b : List ℕ) → Bytes b → length b ≡ widthOf s → number b ≤ mostOf s
+body-fits s b h w = let l : number b < 256 ^ widthOf s = rw w at (number-below b h) in omega arith
 
 pub aggregates-whole : AggregatesWhole
-aggregates-whole bs os i o w e r = record {
-  scalars = λ s k.
-      let known-o : known (kind o) ≡ true = rw k in
-      let shape : fixedShape (row (scalar s)) (o .body) ≡ true = rw k at (fixed os i o (reading-objects bs os w .noBar) e r known-o) in
-      whole-of (row (scalar s)) (o .body) (scalar-tlvs s) shape;
-  hops = λ k.
-      let known-o : known (kind o) ≡ true = rw k in
-      let shape : fixedShape (row (node hp)) (o .body) ≡ true = rw k at (fixed os i o (reading-objects bs os w .noBar) e r known-o) in
-      base-of (row (node hp)) (o .body) shape;
-}
+aggregates-whole c bs os i o l b w e r =
+    let whole = reading-objects bs os w in
+    let shape : (k : Kind) → kind o ≡ k → known k ≡ true → fixedShape (row k) (o .body) ≡ true = λ k q n. rw q at (fixed os i o (whole .noBar) e r (rw q n)) in
+    let width : (s : Scalar) → kind o ≡ scalar s → length (o .body) ≡ widthOf s = λ s k. whole-of (row (scalar s)) (o .body) (scalar-tlvs s) (shape (scalar s) k refl) in
+    record {
+      nodes = λ n k. let h = base-of (row (node n)) (o .body) (shape (node n) k refl) in omega (arith, node-base n);
+      scalars = width;
+      received = λ s k. body-fits s (o .body) (body-bytes os i o (data-bytes bs os b (whole .whole)) e) (width s k);
+      link = link-fits c l;
+    }

@@ -46,6 +46,10 @@ from-bytes n (b ∷ bs) h =
     let w : 256 ^ suc (length bs) ≡ 256 * 256 ^ length bs = pow-succ' 256 (length bs) in
     (b * 256 ^ length bs + k, e ∙ rw (add-mul (n * 256) b (256 ^ length bs), mul-assoc n 256 (256 ^ length bs), ← w) (omega arith), rw w (omega arith))
 
+pub number-below : (bs : List ℕ) → Bytes bs → number bs < 256 ^ length bs
+unfolding number
+number-below bs h = let (k, e, s) = from-bytes 0 bs h in omega arith
+
 above-bytes : (n : ℕ) (bs : List ℕ) → Bytes bs → numberFrom n bs / 256 ^ length bs ≡ n
 above-bytes n bs h =
     let (k, e, s) = from-bytes n bs h in

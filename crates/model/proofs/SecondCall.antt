@@ -75,8 +75,7 @@ beside-all : (cs : List Candidate) (lent : List ℕ) → ((i : ℕ) (c : Candida
 beside-all [] lent w = ([], [], nil, refl)
 beside-all (c ∷ cs) lent w =
     let (ds, rest, e, t) = beside-all cs lent (λ i. w (suc i)) in
-    let bs = cutContainer (containerOf lent c) in
-    (
+    let bs = cutContainer (containerOf lent c) in (
       atHead bs c ∷ map (behind (length bs)) ds,
       bs ++ rest,
       cons (head-beside lent rest c (w 0 c refl)) (behind-beside lent bs rest cs ds e),

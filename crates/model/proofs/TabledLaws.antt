@@ -1,10 +1,11 @@
 -- Bodies as tabled: the objects of a well-formed container have them; how many bytes they have, and which number.
-use mathlib.Core.Path.{_≡_, refl}
+use mathlib.Core.Path.{_≡_, refl, sym, ap, _∙_}
 use Prim.Native.Nat.{ℕ, _+_, _*_, _≤_}
 use native.Mathlib.Omega.{arith}
 use mathlib.Core.Bool.{Bool, true, false, cond, not, _&&_, false≢true}
 use mathlib.Core.List.{List, [], _∷_, _++_}
-use lib.ListN.{length, drop, getD}
+use mathlib.Core.Option.{some}
+use lib.ListN.{length, drop, getD, getElem?}
 use lib.Dec.{leb, eqb}
 use borrow.Author.Tests.{leb-true, eqb-true}
 use Rattle.model.specs.Number.{anyOf, number, firstOf}
@@ -12,6 +13,7 @@ use Rattle.model.specs.Object.{Object, Standing, standings, kindOf, kind
 use Rattle.model.specs.Table.{Row, row}
 use Rattle.model.specs.Reading.{tlvsFit, fixedShape, shaped, cannotBe, sameUse, objectBar}
 use Rattle.model.proofs.BoolLaws.{both}
+use Rattle.model.proofs.ListLaws.{at-split}
 use Rattle.model.proofs.NumberLaws.{first-zero}
 
 -- a known type, misused or not, shaped or not, seen before or not
@@ -33,6 +35,13 @@ pub among-tabled : (ps es : List Object) (o : Object) (rest : List Object) → f
 unfolding firstOf standings
 among-tabled ps [] o rest z k = bar-tabled (record { earlier = ps; object = o }) (first-zero (objectBar (record { earlier = ps; object = o })) _ z .0) k
 among-tabled ps (e ∷ es) o rest z k = among-tabled (ps ++ (e ∷ [])) es o rest (first-zero (objectBar (record { earlier = ps; object = e })) _ z .1) k
+
+-- and the one at an index
+pub at-tabled : (os : List Object) (i : ℕ) (o : Object) → firstOf objectBar (standings [] os) ≡ 0 → getElem? os i ≡ some o
+    → known (kind o) ≡ true → shaped (role o) (row (kind o)) (o .body) ≡ true
+at-tabled os i o z e k =
+    let (es, rest, q) = at-split os i o e in
+    among-tabled [] es o rest (ap (λ l. firstOf objectBar (standings [] l)) (sym q) ∙ z) k
 
 -- ---- the bytes of a constraint's or an aggregated metric's body
 

@@ -15,6 +15,7 @@ pub mod Exact
 pub mod Untouched
 pub mod RoundTrip
 pub mod ReadBack
+pub mod Counters
 pub mod Local
 pub mod Unknown
 pub mod Samples

@@ -2,7 +2,7 @@
 use mathlib.Core.Path.{_≡_}
 use lib.Dec.{eqb}
 use mathlib.Core.Bool.{Bool, cond, not, _&&_, _||_}
-use Prim.Native.Nat.{_/_, ℕ, _+_, _≤_, _<_, min, max}
+use Prim.Native.Nat.{_/_, _%_, ℕ, _+_, _≤_, _<_, min, max}
 use mathlib.Core.List.{List, map}
 use mathlib.Core.Option.{some}
 use lib.ListN.{length, getD, getElem?}
@@ -11,9 +11,9 @@ use Rattle.model.specs.declared.Own.{Own}
 use Rattle.model.specs.declared.Neighbour.{Neighbour}
 use Rattle.model.specs.declared.Candidate.{Candidate}
 use Rattle.model.specs.Number.{isSet, isUnknown, number}
-use Rattle.model.specs.Object.{Object, bitP, bitC, bitO, bitR, fieldA, fieldPrec, isRecorded, Scalar, scalar, node, hp, kind, aggregated, role, throughput, latency, etx, known}
+use Rattle.model.specs.Object.{Object, bitP, bitC, bitO, bitR, fieldA, fieldPrec, isRecorded, Scalar, scalar, Node, node, nsa, ne, hp, kind, aggregated, role, throughput, latency, etx, known}
 use Rattle.model.specs.Reading.{wellFormed, reading}
-use Rattle.model.specs.Constraint.{linkValue}
+use Rattle.model.specs.Constraint.{energyIn, linkValue}
 use Rattle.model.specs.Update.{widthOf, mostOf, updateObject}
 use Rattle.model.specs.Choice.{call}
 use Rattle.model.specs.Selection.{PreferredParent}
@@ -50,11 +50,15 @@ pub record Sum (most x v sum : ℕ) : Type 0 where
   pub below : x + v ≤ most → sum ≡ x + v
   pub above : most < x + v → sum ≡ most
 
+-- the larger of two values by A=1, the smaller by A=2
+pub record Picked (a x v sent : ℕ) : Type 0 where
+  pub larger : a ≡ 1 → sent ≡ max x v
+  pub smaller : a ≡ 2 → sent ≡ min x v
+
 -- an aggregated scalar metric with the known link value v: the number in the body as updated, by that in the body as received
 pub record Aggregates (own : Own) (c : Neighbour) (o : Object) (s : Scalar) (v : ℕ) : Type 0 where
   pub add : fieldA o ≡ 0 → Sum (mostOf s) (number (o .body)) v (number (updateObject own c o .body))
-  pub larger : fieldA o ≡ 1 → number (o .body) ≤ mostOf s → v ≤ mostOf s → number (updateObject own c o .body) ≡ max (number (o .body)) v
-  pub smaller : fieldA o ≡ 2 → number (o .body) ≤ mostOf s → v ≤ mostOf s → number (updateObject own c o .body) ≡ min (number (o .body)) v
+  pub picked : number (o .body) ≤ mostOf s → v ≤ mostOf s → Picked (fieldA o) (number (o .body)) v (number (updateObject own c o .body))
 
 -- of every aggregated scalar metric
 abbrev pub NoSumWraps : Type 0
@@ -66,14 +70,39 @@ abbrev pub CountsHop : Type 0
 CountsHop = (own : Own) (c : Neighbour) (o : Object) → kind o ≡ node hp → role o ≡ aggregated → fieldA o ≡ 0 → 2 ≤ length (o .body)
     → Sum 255 (getD (o .body) 1 0) 1 (getD (updateObject own c o .body) 1 0)
 
--- in a well-formed container an aggregated scalar has its width, and an HP metric two bytes or more, as these two statements ask
-pub record Whole (o : Object) : Type 0 where
-  pub scalars : (s : Scalar) → kind o ≡ scalar s → length (o .body) ≡ widthOf s
-  pub hops : kind o ≡ node hp → 2 ≤ length (o .body)
+-- byte 1 of an aggregated NSA metric as updated: each flag by itself with the own one, and the other six bits 0
+pub record FlagsPicked (own : Own) (o : Object) (sent : ℕ) : Type 0 where
+  pub aggregator : Picked (fieldA o) (getD (o .body) 1 0 / 2 % 2) (own .flags / 2 % 2) (sent / 2 % 2)
+  pub overload : Picked (fieldA o) (getD (o .body) 1 0 % 2) (own .flags % 2) (sent % 2)
+  pub others : sent / 4 ≡ 0
 
--- of every aggregated metric
+-- of every aggregated NSA metric
+abbrev pub PicksFlags : Type 0
+PicksFlags = (own : Own) (c : Neighbour) (o : Object) → kind o ≡ node nsa → role o ≡ aggregated → 2 ≤ length (o .body)
+    → FlagsPicked own o (getD (updateObject own c o .body) 1 0)
+
+-- an aggregated NE metric's E_E with the own energy, where that is known
+abbrev pub PicksEnergy : Type 0
+PicksEnergy = (own : Own) (c : Neighbour) (o : Object) (v : ℕ) → kind o ≡ node ne → role o ≡ aggregated → energyIn (own .flags) (own .energy) ≡ Known v
+    → 2 ≤ length (o .body) → Picked (fieldA o) (getD (o .body) 1 0) v (getD (updateObject own c o .body) 1 0)
+
+-- the link's numbers are within their types: 16 bits of ETX, 32 of latency and of throughput
+pub record LinkWithin (c : Neighbour) : Type 0 where
+  pub etx : c .etx ≤ 65535
+  pub latency : c .latency ≤ 4294967295
+  pub throughput : c .throughput ≤ 4294967295
+
+-- what these statements ask of an aggregated metric and of the link: the widths of bodies, and that both values fit the field
+pub record Whole (c : Neighbour) (o : Object) : Type 0 where
+  pub nodes : (n : Node) → kind o ≡ node n → 2 ≤ length (o .body)
+  pub scalars : (s : Scalar) → kind o ≡ scalar s → length (o .body) ≡ widthOf s
+  pub received : (s : Scalar) → kind o ≡ scalar s → number (o .body) ≤ mostOf s
+  pub link : (s : Scalar) (v : ℕ) → linkValue c s ≡ Known v → v ≤ mostOf s
+
+-- it holds of every aggregated metric of a well-formed container, for bytes and for numbers within their types
 abbrev pub AggregatesWhole : Type 0
-AggregatesWhole = (bs : List ℕ) (os : List Object) (i : ℕ) (o : Object) → reading bs ≡ wellFormed os → getElem? os i ≡ some o → role o ≡ aggregated → Whole o
+AggregatesWhole = (c : Neighbour) (bs : List ℕ) (os : List Object) (i : ℕ) (o : Object) → LinkWithin c → Bytes bs → reading bs ≡ wellFormed os
+    → getElem? os i ≡ some o → role o ≡ aggregated → Whole c o
 
 -- of bytes and of numbers within their types, bytes are passed on
 abbrev pub PassesBytes : Type 0

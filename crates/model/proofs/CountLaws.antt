@@ -1,0 +1,117 @@
+-- Recorded LQL: the link's level is counted among the sub-objects.
+use mathlib.Core.Path.{_≡_, refl, sym, ap, _∙_}
+use Prim.Native.Nat.{ℕ, zero, suc, _+_, _-_, _*_, _/_, _%_, _≤_, _<_}
+use native.Mathlib.Omega.{arith}
+use mathlib.Core.Bool.{Bool, true, false, cond, _&&_, true≢false}
+use mathlib.Core.List.{List, [], _∷_, _++_}
+use mathlib.Core.Logic.{_⊎_, inl, inr}
+use mathlib.Core.Option.{some, Option·none-ne-some}
+use lib.ListN.{length, getElem?}
+use lib.Dec.{leb, ltb, eqb}
+use borrow.Author.Tests.{eq-eqb, eqb-true, ltb-true, ltb-false, leb-true}
+use Rattle.model.specs.Object.{lql}
+use Rattle.model.specs.Table.{row}
+use Rattle.model.specs.Reading.{recordedShape}
+use Rattle.model.specs.Update.{countLevel, countedBody, recordedBody, updateObject}
+use Rattle.model.specs.Counters.{Counter, counter, levels, Gains, Opens, Counts, CountsLevel, RecordsWhole}
+use Rattle.model.proofs.BoolLaws.{both}
+use Rattle.model.proofs.ReadingLaws.{reading-objects}
+use Rattle.model.proofs.TabledLaws.{at-tabled}
+
+-- ---- among sub-objects
+
+-- a sub-object of this value whose counter has room
+abbrev hasRoom : (full v : ℕ) → Counter → Bool
+hasRoom full v s = eqb (s .value) v && ltb (s .count) full
+
+-- the first such gains one, else the value with counter 1 is added at the end
+abbrev countIn : (full v : ℕ) → List Counter → List Counter
+countIn full v [] = counter v 1 ∷ []
+countIn full v (s ∷ ss) = cond (hasRoom full v s) (counter v (s .count + 1) ∷ ss) (s ∷ countIn full v ss)
+
+-- one of this value without room is full
+is-full : (full v : ℕ) (s : Counter) (n : ℕ) → hasRoom full v s ≡ false → s ≡ counter v n → full ≤ n
+is-full full v s n e q = go (ltb n full) refl
+  where
+    go : (b : Bool) → ltb n full ≡ b → full ≤ n
+    go false p = ltb-false n full p
+    go true p =
+        let h : eqb v v && ltb n full ≡ false = rw q at e in
+        let k : eqb v v && ltb n full ≡ true = rw (eq-eqb v v refl, p) in
+        absurd (true≢false (sym k ∙ h))
+
+-- what is full behind one without room
+at-next : (s : Counter) (ss : List Counter) (full v : ℕ) → hasRoom full v s ≡ false
+    → (i n : ℕ) → getElem? (s ∷ ss) i ≡ some (counter v n) → ((j : ℕ) → i ≡ suc j → getElem? ss j ≡ some (counter v n) → full ≤ n) → full ≤ n
+at-next s ss full v e zero n q f = let w : s ≡ counter v n = cc in is-full full v s n e w
+at-next s ss full v e (suc j) n q f = f j refl q
+
+gains-next : (full v : ℕ) (s : Counter) (ss ts : List Counter) → hasRoom full v s ≡ false → Gains full v ss ts → Gains full v (s ∷ ss) (s ∷ ts)
+gains-next full v s ss ts e g = record {
+  index = suc (g .index);
+  count = g .count;
+  stands = g .stands;
+  room = g .room;
+  first = λ i n h q. at-next s ss full v e i n q (λ j w p. g .first j n (omega arith) p);
+  gained = ap (λ l. s ∷ l) (g .gained);
+}
+
+opens-next : (full v : ℕ) (s : Counter) (ss ts : List Counter) → hasRoom full v s ≡ false → Opens full v ss ts → Opens full v (s ∷ ss) (s ∷ ts)
+opens-next full v s ss ts e g =
+    record { none = λ i n q. at-next s ss full v e i n q (λ j w p. g .none j n p); opened = ap (λ l. s ∷ l) (g .opened) }
+
+counted-in : (full v : ℕ) (ss : List Counter) → Gains full v ss (countIn full v ss) ⊎ Opens full v ss (countIn full v ss)
+counted-in full v [] = inr (record { none = λ i n q. absurd (Option·none-ne-some (counter v n) q); opened = refl })
+counted-in full v (s ∷ ss) = go (hasRoom full v s) refl (counted-in full v ss)
+  where
+    after : Bool → List Counter
+    after b = cond b (counter v (s .count + 1) ∷ ss) (s ∷ countIn full v ss)
+
+    go : (b : Bool) → hasRoom full v s ≡ b → Gains full v ss (countIn full v ss) ⊎ Opens full v ss (countIn full v ss)
+        → Gains full v (s ∷ ss) (after b) ⊎ Opens full v (s ∷ ss) (after b)
+    go true e ih =
+        let (p, q) = both (eqb (s .value) v) (ltb (s .count) full) e in
+        let w = eqb-true (s .value) v p in
+        inl (record {
+          index = 0;
+          count = s .count;
+          stands = ap (λ x. some (counter x (s .count))) w;
+          room = ltb-true (s .count) full q;
+          first = λ i n h k. absurd (omega arith);
+          gained = refl;
+        })
+    go false e (inl g) = inl (gains-next full v s ss (countIn full v ss) e g)
+    go false e (inr g) = inr (opens-next full v s ss (countIn full v ss) e g)
+
+-- ---- bytes of LQL
+
+levels-counted : (v : ℕ) (t : List ℕ) → levels (countLevel v t) ≡ countIn 31 v (levels t)
+levels-counted v [] =
+    let a : (v * 32 + 1) / 32 ≡ v = omega arith in
+    let b : (v * 32 + 1) % 32 ≡ 1 = omega arith in
+    rw (a, b)
+levels-counted v (x ∷ t) = go (eqb (x / 32) v && ltb (x % 32) 31) refl (levels-counted v t)
+  where
+    go : (b : Bool) → eqb (x / 32) v && ltb (x % 32) 31 ≡ b → levels (countLevel v t) ≡ countIn 31 v (levels t)
+        → levels (cond b ((x + 1) ∷ t) (x ∷ countLevel v t)) ≡ cond b (counter v (x % 32 + 1) ∷ levels t) (counter (x / 32) (x % 32) ∷ countIn 31 v (levels t))
+    go true e ih =
+        let (p, q) = both (eqb (x / 32) v) (ltb (x % 32) 31) e in
+        let w = eqb-true (x / 32) v p in
+        let u = ltb-true (x % 32) 31 q in
+        let a : (x + 1) / 32 ≡ v = omega arith in
+        let d : (x + 1) % 32 ≡ x % 32 + 1 = omega arith in
+        rw (a, d)
+    go false e ih = rw ih
+
+counted-body : (v : ℕ) (b : List ℕ) → 2 ≤ length b → Counts 31 v levels b (countedBody v b)
+counted-body v [] h = absurd (omega arith)
+counted-body v (x ∷ t) h = record { reserved = refl; counted = rw (levels-counted v t) (counted-in 31 v (levels t)) }
+
+pub counts-level : CountsLevel
+unfolding updateObject recordedBody
+counts-level own c o k r h = rw (k, r) (counted-body (c .lql) (o .body) h)
+
+pub records-whole : RecordsWhole
+records-whole bs os i o w e r k =
+    let shape : recordedShape (row lql) (o .body) ≡ true = rw (r, k) at (at-tabled os i o (reading-objects bs os w .noBar) e (rw k)) in
+    leb-true 2 (length (o .body)) (both (leb 2 (length (o .body))) (eqb ((length (o .body) - 1) % 1) 0) shape .0)
