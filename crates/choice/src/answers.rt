@@ -16,7 +16,7 @@ pub(crate) fn bit_at(position: usize) -> u16
 }
 
 // The answer of a refused call.
-pub fn refused(number: u8) -> Answer
+pub(crate) fn refused(number: u8) -> Answer
     ensures { λ r. ⌜ r ≡ refusedAnswer number ⌝ }
 {
     Answer {
@@ -33,7 +33,7 @@ pub fn refused(number: u8) -> Answer
 }
 
 // The answer of a call that is not refused.
-pub fn answered(
+pub(crate) fn answered(
     parent: u8,
     rank: Rank,
     verdicts: [u8; 16],
@@ -57,7 +57,7 @@ pub fn answered(
 }
 
 // The answer of a call that finds no parent.
-pub fn without_parent(verdicts: [u8; 16], places: [u16; 16], bits: u16) -> Answer
+pub(crate) fn without_parent(verdicts: [u8; 16], places: [u16; 16], bits: u16) -> Answer
     ensures { λ r. ⌜ r ≡ answerWith noParent noRank verdicts places bits nothing ⌝ }
 {
     answered(

@@ -32,7 +32,7 @@ fn comes_before(own: Own, position: u8, rank: Rank, other: u8, than: Rank) -> bo
 }
 
 // The best candidate so far, with one more that is unbarred.
-pub fn better(own: Own, best: Choice, position: u8, rank: Rank) -> Choice
+pub(crate) fn better(own: Own, best: Choice, position: u8, rank: Rank) -> Choice
     ensures { λ r. ⌜ r ≡ afterVerdict (currentOf own) best position (Unbarred rank) ⌝ }
 {
     match best {

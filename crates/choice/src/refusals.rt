@@ -18,7 +18,7 @@ fn is_past(own: Own, count: usize) -> bool
 }
 
 // The number of the first refusal that holds; 0 for none.
-pub fn refusal_of(own: Own, count: usize, room: usize) -> u8
+pub(crate) fn refusal_of(own: Own, count: usize, room: usize) -> u8
     ensures { λ r. ⌜ r ≡ refusal own count room ⌝ }
 {
     if is_bad(own) {

@@ -11,7 +11,7 @@ pub fn counts_in(level: u8, sub: u8) -> bool
 }
 
 // Whether some sub-object gains the hop's count.
-pub fn is_counted(level: u8, subs: &[u8]) -> bool
+pub(crate) fn is_counted(level: u8, subs: &[u8]) -> bool
     ensures { λ r. ⌜ r ≡ anyOf (countsIn level) (now (subs .entry)) ⌝ }
 {
     let mut i: usize = 0;

@@ -37,7 +37,7 @@ pub fn link_value(neighbour: Neighbour, mctype: u8) -> Quantity
 }
 
 // What this hop puts into a metric.
-pub fn local_value(own: Own, neighbour: Neighbour, mctype: u8) -> Quantity
+pub(crate) fn local_value(own: Own, neighbour: Neighbour, mctype: u8) -> Quantity
     ensures { λ r. ⌜ r ≡ localValue own neighbour (kindOf mctype) ⌝ }
 {
     if mctype == 1 {
@@ -56,7 +56,7 @@ pub fn local_value(own: Own, neighbour: Neighbour, mctype: u8) -> Quantity
 }
 
 // Whether a quantity is unknown.
-pub fn is_unknown(q: Quantity) -> bool
+pub(crate) fn is_unknown(q: Quantity) -> bool
     ensures { λ r. ⌜ r ≡ isUnknown q ⌝ }
 {
     match q {

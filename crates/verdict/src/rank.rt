@@ -52,7 +52,7 @@ fn is_above_lowest(own: Own, rank: Rank) -> bool
 }
 
 // Bars 20 and 21, or unbarred. An advertised rank of 65535 results in 65535 or more.
-pub fn judge_rank(own: Own, neighbour: Neighbour) -> Verdict
+pub(crate) fn judge_rank(own: Own, neighbour: Neighbour) -> Verdict
     ensures { λ r. ⌜ r ≡ judgeRank own neighbour (rankBar own neighbour) ⌝ }
 {
     match grow(neighbour.rank, units_of(neighbour), own.minhop) {

@@ -60,7 +60,7 @@ fn tlvs_fit(tlvs: &[u8]) -> bool
 }
 
 // The body of a constraint or an aggregated metric: the base bytes, and TLVs behind them where the type has them. Most have none.
-pub fn is_fixed(mctype: u8, body: &[u8]) -> bool
+pub(crate) fn is_fixed(mctype: u8, body: &[u8]) -> bool
     ensures { λ r. ⌜ r ≡ fixedShape (row (kindOf mctype)) (now (body .entry)) ⌝ }
 {
     let row = table::row_of(mctype);
@@ -79,7 +79,7 @@ pub fn is_fixed(mctype: u8, body: &[u8]) -> bool
 
 // The body of a recorded metric: the lead bytes, and one sub-object or more. Each size of the table has its own divisor; the
 // size of a type that is never recorded is 0.
-pub fn is_series(mctype: u8, body: &[u8]) -> bool
+pub(crate) fn is_series(mctype: u8, body: &[u8]) -> bool
     ensures { λ r. ⌜ r ≡ recordedShape (row (kindOf mctype)) (now (body .entry)) ⌝ }
 {
     let row = table::row_of(mctype);
