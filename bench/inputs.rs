@@ -1,4 +1,5 @@
-//! The inputs of the benchmark: calls whose first candidate becomes the parent and whose container is passed on.
+//! The inputs of the benchmark: calls in which every candidate is unbarred, the first becomes the parent and its container is
+//! passed on; but in `nobody` there is no candidate, and in `barred` all are barred.
 
 use super::reference::data::{Candidate, Neighbour, Own, CANDIDATES};
 
@@ -7,6 +8,8 @@ pub struct Input {
     pub candidates: [Candidate; CANDIDATES],
     pub count: usize,
     pub lent: Vec<u8>,
+    /// How many candidates are unbarred. Where any is, the first is the parent and its container is passed on.
+    pub unbarred: u8,
 }
 
 /// A container's data, object by object.
@@ -62,6 +65,14 @@ fn minimal_objects(size: usize) -> Vec<u8> {
     data.0
 }
 
+/// The same, but the first is an optional constraint: it bars nobody, and constraints are looked for.
+fn one_optional(size: usize) -> Vec<u8> {
+    let mut data = minimal_objects(size);
+    data[1] = OPTIONAL;
+    data[2] = 0;
+    data
+}
+
 /// TLVs without a value in the body of an NSA constraint.
 fn minimal_tlvs(size: usize) -> Vec<u8> {
     let mut data = Data(Vec::new());
@@ -80,6 +91,20 @@ fn unknown_heavy() -> Vec<u8> {
     data.0
 }
 
+/// Five mandatory constraints, all met, and three metrics.
+fn constraints() -> Vec<u8> {
+    let mut data = Data(Vec::new());
+    data.object(1, CONSTRAINT, 0, &[0, 0x01]); // not overloaded
+    data.object(2, CONSTRAINT, 0, &[0x0B, 50]); // on battery, with more than 50 %
+    data.object(3, CONSTRAINT, 0, &[0, 8]); // less than 8 hops
+    data.object(5, CONSTRAINT, 0, &[0, 0, 0x10, 0]); // at most 4096 microseconds
+    data.object(7, CONSTRAINT, 0, &[1, 0]); // an ETX of 2 at most
+    data.object(3, 0, 0, &[0, 3]);
+    data.object(5, 0, 0, &[0, 0, 1, 0]);
+    data.object(7, 0, 0, &[1, 0xC9]);
+    data.0
+}
+
 /// A call whose candidates have such containers, one behind another, at rising ranks.
 fn call(count: usize, flags: u8, data_of: impl Fn(usize) -> Vec<u8>) -> Input {
     let mut input = Input {
@@ -93,6 +118,7 @@ fn call(count: usize, flags: u8, data_of: impl Fn(usize) -> Vec<u8>) -> Input {
         candidates: [Candidate::default(); CANDIDATES],
         count,
         lent: Vec::new(),
+        unbarred: count as u8,
     };
     for position in 0..count {
         let data = data_of(position);
@@ -119,6 +145,16 @@ fn call(count: usize, flags: u8, data_of: impl Fn(usize) -> Vec<u8>) -> Input {
     input
 }
 
+/// Sixteen candidates with an Sp above 9, which is bar 11.
+fn barred() -> Input {
+    let mut input = call(16, ALL_KNOWN, typical);
+    for candidate in &mut input.candidates {
+        candidate.neighbour.sp = 10;
+    }
+    input.unbarred = 0;
+    input
+}
+
 /// The input of a name, its containers of so many data bytes at most where their size is free.
 pub fn named(name: &str, size: usize) -> Option<Input> {
     match name {
@@ -127,6 +163,10 @@ pub fn named(name: &str, size: usize) -> Option<Input> {
         "objects" => Some(call(16, ALL_KNOWN, |_| minimal_objects(size))),
         "tlvs" => Some(call(16, ALL_KNOWN, |_| minimal_tlvs(size))),
         "unknown" => Some(call(16, ALL_KNOWN, |_| unknown_heavy())),
+        "constraints" => Some(call(16, ALL_KNOWN, |_| constraints())),
+        "optional" => Some(call(16, ALL_KNOWN, |_| one_optional(size))),
+        "nobody" => Some(call(0, ALL_KNOWN, typical)),
+        "barred" => Some(barred()),
         _ => None,
     }
 }

@@ -11,7 +11,7 @@ mod reference;
 mod stack;
 
 use inputs::Input;
-use reference::data::Answer;
+use reference::data::{Answer, NO_PARENT};
 use std::time::Instant;
 
 /// A call of the library, under a name of its own for the profiler.
@@ -58,12 +58,19 @@ fn input_of(name: &str, size: &str) -> Input {
     inputs::named(name, size).unwrap_or_else(|| fail(&format!("no input is called {name}")))
 }
 
-/// Calls so often, and prints nanoseconds a call; both implementations must give one answer.
+/// Calls so often, and prints nanoseconds a call; both implementations must give one answer, and the input be what it says.
 fn run(call: Call, mut input: Input, calls: u32) {
     let (mut mine, mut other) = ([0xEE; 257], [0xEE; 257]);
-    let same = bench_library(&mut input, &mut mine) == bench_reference(&mut input, &mut other);
-    if !same || mine != other {
+    let answer = bench_library(&mut input, &mut mine);
+    if answer != bench_reference(&mut input, &mut other) || mine != other {
         fail("the two implementations differ on this input");
+    }
+    let parent = if input.unbarred == 0 { NO_PARENT } else { 0 };
+    if answer.count != input.unbarred
+        || answer.parent != parent
+        || (answer.size == 0) != (parent == NO_PARENT)
+    {
+        fail("this input is not what bench/inputs.rs says");
     }
     let began = Instant::now();
     for _ in 0..calls {
