@@ -112,7 +112,7 @@ fn call(count: usize, flags: u8, data_of: impl Fn(usize) -> Vec<u8>) -> Input {
             minhop: 256,
             nodetype: 1,
             flags: 0x04,
-            energy: 100,
+            energy: 100, // percent
             ..Own::default()
         },
         candidates: [Candidate::default(); CANDIDATES],
@@ -129,7 +129,7 @@ fn call(count: usize, flags: u8, data_of: impl Fn(usize) -> Vec<u8>) -> Input {
                 rf: 1,
                 nodetype: 1,
                 flags,
-                energy: 100,
+                energy: 100, // percent
                 lql: 2,
                 etx: 128,
                 latency: 1000,

@@ -78,26 +78,32 @@ enum {
     GARDHNOSK_THROUGHPUT_KNOWN = 0x20  /* neighbour: throughput is known */
 };
 
-/* The node's own numbers. */
+/*
+ * The node's own numbers. The energy is E_E of RFC 6551, section 3.2, an estimate in percent: on a battery the expected lifetime
+ * divided by the one wanted, on a scavenger the power provided divided by the power consumed. So it can be above 100.
+ */
 typedef struct {
     uint16_t minhop;      /* MinHopRankIncrease, not 0 */
     uint16_t maxincrease; /* DAGMaxRankIncrease; 0: no limit */
     uint16_t lowest;      /* the lowest rank advertised so far, with GARDHNOSK_LOWEST_GIVEN */
-    uint8_t nodetype;     /* 0 mains, 1 battery, 2 scavenger, 3 (RFC 6551, NE) */
+    uint8_t nodetype;     /* T of RFC 6551's NE: 0 mains, 1 battery, 2 scavenger; 3 is accepted, RFC 6551 gives it no meaning */
     uint8_t flags;        /* GARDHNOSK_OVERLOADED to GARDHNOSK_CURRENT_GIVEN */
-    uint8_t energy;       /* remaining energy as NE's E_E, 0 to 255, with GARDHNOSK_ENERGY_KNOWN */
+    uint8_t energy;       /* remaining energy in percent, 0 to 255, with GARDHNOSK_ENERGY_KNOWN */
     size_t current;       /* the current parent's position among the candidates, with GARDHNOSK_CURRENT_GIVEN */
 } gardhnosk_own;
 
-/* What is known of a neighbour and of the link to it. */
+/*
+ * What is known of a neighbour and of the link to it. The rank grows by rf x sp + sr units of MinHopRankIncrease (RFC 6552,
+ * section 4.1); with that RFC's defaults, sp 3, rf 1 and sr 0, a hop is three units.
+ */
 typedef struct {
     uint16_t rank;       /* the rank that it advertised */
-    uint8_t sp;          /* step of rank, 1 to 9 (RFC 6552) */
-    uint8_t rf;          /* rank factor, 1 to 4 */
-    uint8_t sr;          /* stretch of rank, 0 to 5 */
+    uint8_t sp;          /* Sp, step_of_rank: 1 to 9, usually 3 (DEFAULT_STEP_OF_RANK) */
+    uint8_t rf;          /* Rf, rank_factor: 1 to 4, usually 1 (DEFAULT_RANK_FACTOR) */
+    uint8_t sr;          /* Sr, up to stretch_of_rank: 0 to 5, usually 0 (DEFAULT_RANK_STRETCH) */
     uint8_t nodetype;    /* as own's, 0 to 3 */
     uint8_t flags;       /* OVERLOADED, AGGREGATOR, ENERGY_KNOWN, ETX_KNOWN, LATENCY_KNOWN, THROUGHPUT_KNOWN */
-    uint8_t energy;      /* as own's, with GARDHNOSK_ENERGY_KNOWN */
+    uint8_t energy;      /* as own's, in percent, with GARDHNOSK_ENERGY_KNOWN */
     uint8_t lql;         /* the link's quality level, 1 best to 7; 0 unknown */
     uint16_t etx;        /* the link's ETX times 128, with GARDHNOSK_ETX_KNOWN */
     uint32_t latency;    /* the link's latency in microseconds, with GARDHNOSK_LATENCY_KNOWN */
