@@ -4,6 +4,9 @@
  * container to send on. For C99 and C++11 on x86-64; link libgardhnosk.a.
  *
  * Every call answers, whatever the numbers and the bytes. Nothing is kept or allocated: calls from several threads need no lock.
+ * While a call runs, nobody else may write to the bytes that it reads or to its output, no thread, no interrupt and no DMA: it
+ * reads a container several times, and where that changes meanwhile it can write past an array on its stack. So copy a buffer
+ * that is still being received into, and lend the copy.
  * A pointer is valid for the size beside it; where that is 0 nothing is read or written, and it may be null. An output overlaps
  * no input. Stack, with what a call is passed, as measured: under 3 KB for gardhnosk_choose, 2 KB for gardhnosk_meaning and 1 KB
  * for gardhnosk_list, but for what a dynamic linker takes at a first call of memcpy.
@@ -117,7 +120,10 @@ typedef struct {
     size_t size;  /* its length in bytes */
 } gardhnosk_candidate;
 
-/* The candidates of a call, at the positions 0 to 15; those from the call's count on are ignored. */
+/*
+ * The candidates of a call, at the positions 0 to 15. All 16 are copied, so all are readable memory; those from the call's count on
+ * are ignored, and may hold anything.
+ */
 typedef struct {
     gardhnosk_candidate at[GARDHNOSK_CANDIDATES];
 } gardhnosk_candidates;
