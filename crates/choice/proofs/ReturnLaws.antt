@@ -14,7 +14,7 @@ use Rattle.model.specs.declared.Answer.{Answer}
 use Rattle.model.specs.Choice.{refusal, Outgoing, noParent, parentOf, rankOf, outputOf, outgoing, Result, choiceOf, unlessRefused, call}
 use Rattle.model.proofs.Refusals.{refusal-is}
 use Rattle.model.proofs.CallLaws.{call-is, unrefused}
-use Rattle.hop.specs.declared.sending.Sent.{Sent}
+use Rattle.hop.specs.declared.plan.Sent.{Sent}
 use Rattle.hop.specs.Sent.{sentOf, sends}
 use Rattle.choice.specs.Given.{given}
 use Rattle.choice.specs.Demand3.{Returned}

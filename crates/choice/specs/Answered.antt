@@ -6,7 +6,7 @@ use Rattle.model.specs.declared.Rank.{Rank}
 use Rattle.model.specs.declared.Answer.{Answer}
 use Rattle.model.specs.Rank.{infinite}
 use Rattle.model.specs.Choice.{refusedBy}
-use Rattle.hop.specs.declared.sending.Sent.{Sent}
+use Rattle.hop.specs.declared.plan.Sent.{Sent}
 
 -- the answer of a refused call
 abbrev pub refusedAnswer : (number : ℕ) → Answer

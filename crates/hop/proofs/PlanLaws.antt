@@ -22,7 +22,7 @@ use Rattle.wire.specs.declared.objects.Step.the-variants.{Found, CutShort, End}
 use Rattle.wire.specs.Step.{firstCursor, stepAt, objectOf, objectIn}
 use Rattle.wire.proofs.WalkLaws.{Walked, walk-first, walk-found, walk-end, walk-short, walk-room}
 use Rattle.hop.specs.declared.plan.Planned.{Planned}
-use Rattle.hop.specs.declared.sending.Sent.{Sent}
+use Rattle.hop.specs.declared.plan.Sent.{Sent}
 use Rattle.hop.specs.Sent.{sendsObjects, sentOf}
 use Rattle.hop.specs.Planned.{Plans}
 

@@ -28,7 +28,7 @@ use Rattle.wire.specs.Put.{Put}
 use Rattle.wire.specs.Step.{firstCursor, stepAt, objectOf, objectIn}
 use Rattle.wire.proofs.PutLaws.{put-nothing, put-append, put-cons, put-before, put-length}
 use Rattle.wire.proofs.WalkLaws.{Walked, walk-first, walk-found, walk-end, walk-short, walk-rest}
-use Rattle.hop.specs.declared.sending.Sent.{Sent}
+use Rattle.hop.specs.declared.plan.Sent.{Sent}
 use Rattle.hop.specs.Sent.{unfit, sendsObjects, sends, sentOf}
 use Rattle.hop.specs.Planned.{Fits}
 use Rattle.hop.proofs.PlanLaws.{bodyNext, join-next}

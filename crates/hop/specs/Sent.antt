@@ -11,7 +11,7 @@ use Rattle.model.specs.Object.{Object, container}
 use Rattle.model.specs.Reading.{dataObjects}
 use Rattle.model.specs.Update.{update, leafAnswer}
 use Rattle.model.specs.Choice.{Outgoing, noContainer, unlessLeaf, leafOf, sizeOf}
-use Rattle.hop.specs.declared.sending.Sent.{Sent}
+use Rattle.hop.specs.declared.plan.Sent.{Sent}
 
 -- numbers and lengths that no parent of an unrefused call has: own type above 3, LQL above 7, a container over 257 bytes, an output under 257
 abbrev pub unfit : Own → Neighbour → (size room : ℕ) → Bool

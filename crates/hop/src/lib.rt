@@ -7,5 +7,5 @@ mod plan;
 mod recorded;
 mod sending;
 
-pub use sending::Sent;
+pub use plan::Sent;
 pub use sending::send;

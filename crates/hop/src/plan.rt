@@ -11,11 +11,16 @@ ghost use Rattle.model.specs.Reading.{dataObjects};
 ghost use Rattle.wire.specs.Step.{objectOf};
 ghost use Rattle.hop.specs.Sent.{sendsObjects, sentOf};
 ghost use Rattle.hop.specs.Planned.{Plans};
-use crate::sending::Sent;
 use model::Neighbour;
 use model::Own;
 use wire::Header;
 use wire::Step;
+
+// What is sent on: a leaf number, 0 for none; and document 01's length of the container in the output, 0 for none.
+pub struct Sent {
+    pub leaf: u8,
+    pub size: u16,
+}
 
 // What is known of the objects so far: the first of 31 to 34, or 0; the bytes of the objects for the next hop.
 pub struct Planned {

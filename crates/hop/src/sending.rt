@@ -16,16 +16,11 @@ ghost use Rattle.hop.specs.Planned.{Fits};
 use crate::bodies;
 use crate::bytes;
 use crate::plan;
+use crate::plan::Sent;
 use model::Neighbour;
 use model::Own;
 use wire::Header;
 use wire::Step;
-
-// What is sent on: a leaf number, 0 for none; and document 01's length of the container in the output, 0 for none.
-pub struct Sent {
-    pub leaf: u8,
-    pub size: u16,
-}
 
 // Puts an object for the next hop at an index; answers the index behind it.
 fn put_object(
