@@ -4,12 +4,12 @@ ghost use lib.ListN.{length};
 ghost use Rattle.choose.specs.Sound.{Sound};
 use crate::answer;
 use crate::names;
+use crate::say::Buffer;
 use crate::say::Fault;
 use crate::sections;
 use crate::settings;
 use crate::settings::Next;
 use crate::state;
-use crate::state::Buffer;
 use crate::state::Rows;
 use crate::state::State;
 

@@ -3,7 +3,7 @@
 ghost use Prim.Native.Nat.{_≤_};
 ghost use lib.ListN.{length};
 ghost use Rattle.choose.specs.Sound.{Sound};
-use crate::state::Buffer;
+use crate::say::Buffer;
 use crate::state::Rows;
 use crate::state::State;
 use libc::STDIN_FILENO;

@@ -1,7 +1,7 @@
 // The lines of an answered call.
 ghost use Prim.Native.Nat.{_≤_};
 use crate::say;
-use crate::state::Buffer;
+use crate::say::Buffer;
 use model::Answer;
 
 const HEX: [u8; 16] = *b"0123456789ABCDEF";

@@ -2,8 +2,10 @@
 ghost use Prim.Native.Nat.{_≤_};
 ghost use lib.ListN.{length};
 use crate::names;
-use crate::state::Buffer;
 use libc::STDOUT_FILENO;
+
+// The output that is gathered; the lent run has the same type.
+pub type Buffer = [u8; 65536];
 
 // What can be wrong with a call.
 pub enum Fault {

@@ -2,10 +2,10 @@
 ghost use Prim.Native.Nat.{_≤_};
 ghost use Rattle.choose.specs.Sound.{Sound};
 use crate::names;
+use crate::say::Buffer;
 use crate::say::Fault;
 use crate::settings;
 use crate::state;
-use crate::state::Buffer;
 use crate::state::Rows;
 use crate::state::State;
 

@@ -1,6 +1,7 @@
 // What is known of the input so far.
 ghost use Rattle.choose.specs.Sound.{Sound};
 use crate::say;
+use crate::say::Buffer;
 use crate::say::Fault;
 
 // Where the next word stands: before the first call; behind `call`; behind `candidate`; or behind an error of its call.
@@ -14,9 +15,6 @@ pub const SKIPPED: u8 = 3;
 
 // The largest number.
 pub const MOST: u64 = 18446744073709551615;
-
-// The lent run, or the output that is gathered.
-pub type Buffer = [u8; 65536];
 
 // The row of `call`, and one of each candidate: the number behind each of the first 17 words, then the bits of the words that were
 // given.
