@@ -65,7 +65,7 @@ fn minimal_objects(size: usize) -> Vec<u8> {
     data.0
 }
 
-/// The same, but the first is an optional constraint: it bars nobody, and constraints are looked for.
+/// The same, but the first is an optional constraint, which bars nobody.
 fn one_optional(size: usize) -> Vec<u8> {
     let mut data = minimal_objects(size);
     data[1] = OPTIONAL;
