@@ -119,24 +119,24 @@ within true x v most h e = let q : x ≡ v = cc in omega arith
 within false x v most h e = absurd (let z : _≡_ {A = ℕ} 0 1 = cc in omega arith)
 
 -- a link's value within its type fits the field
-link-fits : (c : Neighbour) → LinkWithin c → (s : Scalar) (v : ℕ) → linkValue c s ≡ Known v → v ≤ mostOf s
+link-fits : (s : Scalar) (c : Neighbour) (v : ℕ) → LinkWithin c → linkValue c s ≡ Known v → v ≤ mostOf s
 unfolding linkValue
-link-fits c w throughput v e = within (isSet (c .flags / 32 % 2)) (c .throughput) v 4294967295 (w .throughput) e
-link-fits c w latency v e = within (isSet (c .flags / 16 % 2)) (c .latency) v 4294967295 (w .latency) e
-link-fits c w etx v e = within (isSet (c .flags / 8 % 2)) (c .etx) v 65535 (w .etx) e
+link-fits throughput c v w e = within (isSet (c .flags / 32 % 2)) (c .throughput) v 4294967295 (w .throughput) e
+link-fits latency c v w e = within (isSet (c .flags / 16 % 2)) (c .latency) v 4294967295 (w .latency) e
+link-fits etx c v w e = within (isSet (c .flags / 8 % 2)) (c .etx) v 65535 (w .etx) e
 
 -- bytes as many as the field has hold a number that fits it
 body-fits : (s : Scalar) (b : List ℕ) → Bytes b → length b ≡ widthOf s → number b ≤ mostOf s
 body-fits s b h w = let l : number b < 256 ^ widthOf s = rw w at (number-below b h) in omega arith
 
 pub aggregates-whole : AggregatesWhole
-aggregates-whole c bs os i o l b w e r =
+aggregates-whole bs os i o w e r =
     let whole = reading-objects bs os w in
     let shape : (k : Kind) → kind o ≡ k → known k ≡ true → fixedShape (row k) (o .body) ≡ true = λ k q n. rw q at (fixed os i o (whole .noBar) e r (rw q n)) in
     let width : (s : Scalar) → kind o ≡ scalar s → length (o .body) ≡ widthOf s = λ s k. whole-of (row (scalar s)) (o .body) (scalar-tlvs s) (shape (scalar s) k refl) in
     record {
       nodes = λ n k. let h = base-of (row (node n)) (o .body) (shape (node n) k refl) in omega (arith, node-base n);
       scalars = width;
-      received = λ s k. body-fits s (o .body) (body-bytes os i o (data-bytes bs os b (whole .whole)) e) (width s k);
-      link = link-fits c l;
+      received = λ s k b. body-fits s (o .body) (body-bytes os i o (data-bytes bs os b (whole .whole)) e) (width s k);
+      link = link-fits;
     }

@@ -92,17 +92,17 @@ pub record LinkWithin (c : Neighbour) : Type 0 where
   pub latency : c .latency ≤ 4294967295
   pub throughput : c .throughput ≤ 4294967295
 
--- what these statements ask of an aggregated metric and of the link: the widths of bodies, and that both values fit the field
-pub record Whole (c : Neighbour) (o : Object) : Type 0 where
+-- what these statements ask of an aggregated metric in a container: the bytes of its body; of bytes, and of a link's numbers within
+-- their types, that the received value and the link's fit the field
+pub record Whole (container : List ℕ) (o : Object) : Type 0 where
   pub nodes : (n : Node) → kind o ≡ node n → 2 ≤ length (o .body)
   pub scalars : (s : Scalar) → kind o ≡ scalar s → length (o .body) ≡ widthOf s
-  pub received : (s : Scalar) → kind o ≡ scalar s → number (o .body) ≤ mostOf s
-  pub link : (s : Scalar) (v : ℕ) → linkValue c s ≡ Known v → v ≤ mostOf s
+  pub received : (s : Scalar) → kind o ≡ scalar s → Bytes container → number (o .body) ≤ mostOf s
+  pub link : (s : Scalar) (c : Neighbour) (v : ℕ) → LinkWithin c → linkValue c s ≡ Known v → v ≤ mostOf s
 
--- it holds of every aggregated metric of a well-formed container, for bytes and for numbers within their types
+-- of every aggregated metric of a well-formed container
 abbrev pub AggregatesWhole : Type 0
-AggregatesWhole = (c : Neighbour) (bs : List ℕ) (os : List Object) (i : ℕ) (o : Object) → LinkWithin c → Bytes bs → reading bs ≡ wellFormed os
-    → getElem? os i ≡ some o → role o ≡ aggregated → Whole c o
+AggregatesWhole = (bs : List ℕ) (os : List Object) (i : ℕ) (o : Object) → reading bs ≡ wellFormed os → getElem? os i ≡ some o → role o ≡ aggregated → Whole bs o
 
 -- of bytes and of numbers within their types, bytes are passed on
 abbrev pub PassesBytes : Type 0
