@@ -1,9 +1,8 @@
-// Reading the numbers and bytes of a line.
+// Reading the numbers of a line.
 ghost use Prim.Native.Nat.{_≤_};
 ghost use mathlib.Core.Path.{_≡_};
 ghost use lib.ListN.{length};
 use words::Decimal;
-use words::HexByte;
 
 // A number, and the index behind it; 0 if there is none.
 pub struct Field {
@@ -50,32 +49,4 @@ pub(crate) fn numbers(text: &[u8], from: usize, limits: &[u64], out: &mut [u64])
         i += 1;
     }
     at
-}
-
-// Puts the bytes of a text, each of a space and two hexadecimal digits, at the start of out; answers how many, up to what is none,
-// or the end of out.
-pub fn bytes(text: &[u8], out: &mut [u8]) -> usize
-    ensures { λ r. ⌜ r ≤ length (now (out .exit)) ⌝ }
-{
-    let mut n = 0;
-    let mut at = 0;
-    while n < out.len() {
-        if text.len() - at < 3 {
-            return n;
-        }
-        if text[at] != b' ' {
-            return n;
-        }
-        match words::byte(text[at + 1], text[at + 2]) {
-            HexByte::Byte(b) => {
-                out[n] = b;
-            }
-            HexByte::NotHex => {
-                return n;
-            }
-        }
-        n += 1;
-        at += 3;
-    }
-    n
 }

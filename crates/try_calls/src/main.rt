@@ -46,7 +46,7 @@ fn run_line(line: &[u8]) {
         return;
     }
     let mut lent = io::large_buffer();
-    let n = fields::bytes(&line[at..], &mut lent);
+    let n = words::bytes(&line[at..], &mut lent);
     if n * 3 != line.len() - at {
         say::unreadable(space);
         return;
