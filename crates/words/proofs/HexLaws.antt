@@ -7,7 +7,6 @@ use mathlib.Core.List.{List, [], _∷_, _++_, append-nil}
 use lib.ListN.{length, getD, set, take, drop, length-drop, take-append-drop}
 use lib.Seq.{drop-cons, length-take-le, take-all, take-at, take-suc-set, drop-set-lt, drop-drop, append-snoc}
 use borrow.Author.Tests.{eq-eqb, ne-eqb}
-use Rattle.words.specs.declared.digits.HexByte.{HexByte}
 use Rattle.words.specs.declared.digits.HexByte.the-variants.{Byte, NotHex}
 use Rattle.words.specs.Digits.{byteOf}
 use Rattle.words.specs.Hex.{ahead, bytesFrom, spelled, spelledIn}
