@@ -1,9 +1,9 @@
 -- Recorded LQL: the link's level is counted among the sub-objects.
 use mathlib.Core.Path.{_≡_, refl, sym, ap, _∙_}
-use Prim.Native.Nat.{ℕ, zero, suc, _+_, _-_, _*_, _/_, _%_, _≤_, _<_}
+use Prim.Native.Nat.{ℕ, zero, suc, _+_, _-_, _*_, _/_, _%_, _≤_}
 use native.Mathlib.Omega.{arith}
 use mathlib.Core.Bool.{Bool, true, false, cond, _&&_, true≢false}
-use mathlib.Core.List.{List, [], _∷_, _++_}
+use mathlib.Core.List.{List, [], _∷_}
 use mathlib.Core.Logic.{_⊎_, inl, inr}
 use mathlib.Core.Option.{some, Option·none-ne-some}
 use lib.ListN.{length, getElem?}
@@ -58,10 +58,10 @@ gains-next full v s ss ts e g = record {
 
 opens-next : (full v : ℕ) (s : Counter) (ss ts : List Counter) → hasRoom full v s ≡ false → Opens full v ss ts → Opens full v (s ∷ ss) (s ∷ ts)
 opens-next full v s ss ts e g =
-    record { none = λ i n q. at-next s ss full v e i n q (λ j w p. g .none j n p); opened = ap (λ l. s ∷ l) (g .opened) }
+    record { noRoom = λ i n q. at-next s ss full v e i n q (λ j w p. g .noRoom j n p); opened = ap (λ l. s ∷ l) (g .opened) }
 
 counted-in : (full v : ℕ) (ss : List Counter) → Gains full v ss (countIn full v ss) ⊎ Opens full v ss (countIn full v ss)
-counted-in full v [] = inr (record { none = λ i n q. absurd (Option·none-ne-some (counter v n) q); opened = refl })
+counted-in full v [] = inr (record { noRoom = λ i n q. absurd (Option·none-ne-some (counter v n) q); opened = refl })
 counted-in full v (s ∷ ss) = go (hasRoom full v s) refl (counted-in full v ss)
   where
     after : Bool → List Counter

@@ -36,7 +36,7 @@ pub record Gains (full value : ℕ) (received sent : List Counter) : Type 0 wher
 
 -- there is none, and this value with counter 1 stands behind the others
 pub record Opens (full value : ℕ) (received sent : List Counter) : Type 0 where
-  pub none : (i n : ℕ) → getElem? received i ≡ some (counter value n) → full ≤ n
+  pub noRoom : (i n : ℕ) → getElem? received i ≡ some (counter value n) → full ≤ n
   pub opened : sent ≡ received ++ (counter value 1 ∷ [])
 
 -- a recorded body of such sub-objects behind a reserved byte, as received and as sent

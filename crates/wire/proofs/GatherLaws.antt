@@ -1,10 +1,10 @@
 -- One object more behind others: the first bar, its index, the count of the HP metric.
 use mathlib.Core.Path.{_≡_, refl, sym, ap, subst, _∙_}
-use Prim.Native.Nat.{ℕ, zero, suc, _+_, _/_, _%_, _≤_}
+use Prim.Native.Nat.{ℕ, zero, suc, _+_, _≤_}
 use mathlib.Core.Bool.{Bool, true, false, _||_, or-false}
 use mathlib.Core.List.{List, [], _∷_, _++_, append-assoc, append-nil}
 use lib.ListN.{length, length-append}
-use Rattle.model.specs.Number.{isSet, anyOf, first, firstOf, indexOf}
+use Rattle.model.specs.Number.{anyOf, first, firstOf, indexOf}
 use Rattle.model.specs.Object.{Object, kind, known, role, standings}
 use Rattle.model.specs.Table.{row}
 use Rattle.model.specs.Reading.{cannotBe, shaped, sameUse, objectBar, readAs}

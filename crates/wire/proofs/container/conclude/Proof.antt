@@ -1,4 +1,3 @@
-use borrow.Author.Needs.{needs}
 use Rattle.wire.proofs.GatherLaws.{gathers-whole}
 use Rattle.wire.proofs.container.conclude.Statement.{statement}
 use Rattle.wire.proofs.container.conclude.Tie as tie
