@@ -117,7 +117,7 @@ pub fn list(container: &[u8], out: &mut [u8]) -> Listed
         Reading::Refused { number, place: _ } => Listed::Text(put_refused(out, number)),
         Reading::WellFormed {
             count: _,
-            constrained: _,
+            mandatory: _,
             hops: _,
         } => Listed::Text(put_lines(container, out)),
     }

@@ -7,8 +7,8 @@ use mathlib.Core.Path.{_≡_, refl, sym, ap, _∙_}
 use mathlib.Core.Bool.{Bool, true, false, _&&_, cond}
 use mathlib.Core.List.{List, [], _∷_, _++_, append-assoc, append-nil}
 use Prim.Native.String.{String}
-use lib.Dec.{ltb, leb, eqb}
-use lib.ListN.{length, getD, set, take, drop, length-append, List·getD-append}
+use lib.Dec.{ltb, leb}
+use lib.ListN.{length, getD, set, drop, length-append, List·getD-append}
 use lib.Seq.{paste, paste-zero, paste-suc, length-paste, take-all, getD-append-add}
 use borrow.Author.Tests.{le-ltb, ltb-true, ltb-false, leb-true, ne-eqb}
 use Rattle.meaning.specs.Meaning.{table, wordsIn, codesFrom, meaning, meaningRoom, told, toldIn}

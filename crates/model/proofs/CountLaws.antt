@@ -9,7 +9,7 @@ use mathlib.Core.Option.{some, Option·none-ne-some}
 use lib.ListN.{length, getElem?}
 use lib.Dec.{leb, ltb, eqb}
 use borrow.Author.Tests.{eq-eqb, eqb-true, ltb-true, ltb-false, leb-true}
-use Rattle.model.specs.Object.{lql}
+use Rattle.model.specs.Object.{lql, kindOf, kind}
 use Rattle.model.specs.Table.{row}
 use Rattle.model.specs.Reading.{recordedShape}
 use Rattle.model.specs.Update.{countLevel, countedBody, recordedBody, updateObject}
@@ -108,10 +108,12 @@ counted-body v [] h = absurd (omega arith)
 counted-body v (x ∷ t) h = record { reserved = refl; counted = rw (levels-counted v t) (counted-in 31 v (levels t)) }
 
 pub counts-level : CountsLevel
-unfolding updateObject recordedBody
-counts-level own c o k r h = rw (k, r) (counted-body (c .lql) (o .body) h)
+unfolding kindOf updateObject recordedBody
+counts-level own c o t r h = let k : kind o ≡ lql = rw t in rw (k, r) (counted-body (c .lql) (o .body) h)
 
 pub records-whole : RecordsWhole
-records-whole bs os i o w e r k =
+unfolding kindOf
+records-whole bs os i o w e r t =
+    let k : kind o ≡ lql = rw t in
     let shape : recordedShape (row lql) (o .body) ≡ true = rw (r, k) at (at-tabled os i o (reading-objects bs os w .noBar) e (rw k)) in
     leb-true 2 (length (o .body)) (both (leb 2 (length (o .body))) (eqb ((length (o .body) - 1) % 1) 0) shape .0)

@@ -2,7 +2,7 @@
 use mathlib.Core.Path.{_≡_, refl, sym, ap, _∙_}
 use Prim.Native.Nat.{ℕ, zero, suc, _-_, _≤_, _<_}
 use native.Mathlib.Omega.{arith}
-use mathlib.Core.Bool.{Bool, _||_, or-assoc}
+use mathlib.Core.Bool.{Bool, true, false, _||_, or-assoc}
 use mathlib.Core.List.{List, [], _∷_, _++_, map}
 use mathlib.Core.Option.{some, Option·none-ne-some}
 use lib.ListN.{length, getD, getElem?, replicate, length-append, length-replicate}
@@ -52,6 +52,16 @@ any-map p f (x ∷ xs) = rw (any-map p f xs)
 pub any-append : {A : Type 0} (f : A → Bool) (xs ys : List A) → anyOf f (xs ++ ys) ≡ anyOf f xs || anyOf f ys
 any-append f [] ys = refl
 any-append f (x ∷ xs) ys = rw (any-append f xs ys) (sym (or-assoc (f x) (anyOf f xs) (anyOf f ys)))
+
+pub any-or : {A : Type 0} (f g : A → Bool) (xs : List A) → anyOf (λ x. f x || g x) xs ≡ anyOf f xs || anyOf g xs
+any-or f g [] = refl
+any-or f g (x ∷ xs) = go (f x) (g x) (anyOf f xs) (anyOf g xs) (any-or f g xs)
+  where
+    go : (a b c d : Bool) → anyOf (λ x. f x || g x) xs ≡ c || d → (a || b) || anyOf (λ x. f x || g x) xs ≡ (a || c) || (b || d)
+    go true b c d e = refl
+    go false true true d e = refl
+    go false true false d e = refl
+    go false false c d e = e
 
 pub any-same : {A : Type 0} (p q : A → Bool) → ((x : A) → p x ≡ q x) → (xs : List A) → anyOf p xs ≡ anyOf q xs
 any-same p q h [] = refl

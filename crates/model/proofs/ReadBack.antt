@@ -1,17 +1,17 @@
 -- The written container reads back as the updated objects; no sum wraps.
-use mathlib.Core.Path.{_≡_, refl, ap, _∙_}
-use Prim.Native.Nat.{ℕ, _+_, _*_, _/_, _%_, _^_, _≤_, _<_, min}
+use mathlib.Core.Path.{_≡_, refl, _∙_}
+use Prim.Native.Nat.{ℕ, zero, suc, _+_, _*_, _/_, _%_, _^_, _≤_, _<_, min}
 use native.Mathlib.Omega.{arith}
 use mathlib.Core.Bool.{Bool, true, false, cond}
 use mathlib.Core.List.{List, [], _∷_}
 use mathlib.Core.Option.{some}
 use lib.ListN.{length, getD, getElem?}
-use borrow.Author.Tests.{eq-eqb}
+use borrow.Author.Tests.{eq-eqb, le-leb}
 use Rattle.model.specs.declared.Quantity.the-variants.{Known, Unknown}
 use Rattle.model.specs.declared.Own.{Own}
 use Rattle.model.specs.declared.Neighbour.{Neighbour}
 use Rattle.model.specs.Number.{isSet, number, firstOf}
-use Rattle.model.specs.Object.{Object, standings, fieldA, Kind, Node, nsa, ne, hp, Scalar, throughput, latency, etx, node, scalar, known, kind, aggregated, role}
+use Rattle.model.specs.Object.{Object, standings, fieldA, kindOf, nsa, ne, hp, Scalar, throughput, latency, etx, node, scalar, known, kind, aggregated, role}
 use Rattle.model.specs.Table.{row}
 use Rattle.model.specs.Reading.{fixedShape, objectBar}
 use Rattle.model.specs.Constraint.{linkValue}
@@ -19,6 +19,7 @@ use Rattle.model.specs.Update.{localValue, combine, onTwo, clear0, combi
 use Rattle.model.specs.ReadBack.{ReadsBack, Aggregates, NoSumWraps, CountsHop, Picked, PicksFlags, PicksEnergy, LinkWithin, AggregatesWhole}
 use Rattle.model.specs.RoundTrip.{Bytes}
 use Rattle.model.proofs.RoundTrip.{number-bigEndian, number-below}
+use Rattle.model.proofs.TypeLaws.{known-types}
 use Rattle.model.proofs.ReadingLaws.{reading-objects, reading-container}
 use Rattle.model.proofs.TabledLaws.{at-tabled, base-of, whole-of}
 use Rattle.model.proofs.ByteLaws.{combine-within, body-bytes, data-bytes}
@@ -61,8 +62,9 @@ byte1-onTwo f g (x ∷ []) h = absurd (omega arith)
 byte1-onTwo f g (x ∷ y ∷ t) h = refl
 
 pub counts-hop : CountsHop
-unfolding updateObject localValue aggregatedBody
-counts-hop own c o k r a h =
+unfolding kindOf updateObject localValue aggregatedBody
+counts-hop own c o t r a h =
+    let k : kind o ≡ node hp = rw t in
     let e : getD (updateObject own c o .body) 1 0 ≡ min 255 (getD (o .body) 1 0 + 1) = rw (k, r, a) (byte1-onTwo (clear0 hp) (combine1 hp 0 1) (o .body) h) in
     record { below = λ g. e ∙ omega arith; above = λ g. e ∙ omega arith }
 
@@ -77,8 +79,9 @@ flag-within : (a x v : ℕ) → combine a 1 (x % 2) (v % 2) ≤ 1
 flag-within a x v = combine-within a 1 (x % 2) (v % 2) (omega arith) (omega arith)
 
 pub picks-flags : PicksFlags
-unfolding updateObject localValue aggregatedBody
-picks-flags own c o k r h =
+unfolding kindOf updateObject localValue aggregatedBody
+picks-flags own c o t r h =
+    let k : kind o ≡ node nsa = rw t in
     let a = fieldA o in
     let y = getD (o .body) 1 0 in
     let v = own .flags in
@@ -97,9 +100,11 @@ picks-flags own c o k r h =
     }
 
 pub picks-energy : PicksEnergy
-unfolding updateObject localValue aggregatedBody
-picks-energy own c o v k r l h =
-    picks (fieldA o) 255 (getD (o .body) 1 0) v _ (rw (k, r, l) (byte1-onTwo (clear0 ne) (combine1 ne (fieldA o) v) (o .body) h))
+unfolding kindOf updateObject localValue aggregatedBody
+picks-energy own c o t r l h =
+    let k : kind o ≡ node ne = rw t in
+    let v = own .energy in
+    picks (fieldA o) 255 (getD (o .body) 1 0) v _ (rw (k, r, eq-eqb (own .flags / 4 % 2) 1 l) (byte1-onTwo (clear0 ne) (combine1 ne (fieldA o) v) (o .body) h))
 
 -- ---- widths and ranges
 
@@ -108,10 +113,17 @@ fixed : (os : List Object) (i : ℕ) (o : Object) → firstOf objectBar (standin
     → fixedShape (row (kind o)) (o .body) ≡ true
 fixed os i o z e r k = rw r at (at-tabled os i o z e k)
 
-node-base : (n : Node) → row (node n) .base ≡ 2
-node-base nsa = refl
-node-base ne = refl
-node-base hp = refl
+-- types 1 to 3 have two fixed bytes
+node-base : (t : ℕ) → 1 ≤ t → t ≤ 3 → row (kindOf t) .base ≡ 2
+unfolding kindOf
+node-base zero h l = absurd (omega arith)
+node-base (suc zero) h l = refl
+node-base (suc (suc zero)) h l = refl
+node-base (suc (suc (suc zero))) h l = refl
+node-base (suc (suc (suc (suc t)))) h l = absurd (omega arith)
+
+node-known : (t : ℕ) → 1 ≤ t → t ≤ 3 → known (kindOf t) ≡ true
+node-known t h l = known-types t ∙ rw (le-leb 1 t h, le-leb t 7 (omega arith))
 
 -- a known value is the number behind its bit
 within : (b : Bool) (x v most : ℕ) → x ≤ most → cond b (Known x) Unknown ≡ Known v → v ≤ most
@@ -132,10 +144,10 @@ body-fits s b h w = let l : number b < 256 ^ widthOf s = rw w at (number-below b
 pub aggregates-whole : AggregatesWhole
 aggregates-whole bs os i o w e r =
     let whole = reading-objects bs os w in
-    let shape : (k : Kind) → kind o ≡ k → known k ≡ true → fixedShape (row k) (o .body) ≡ true = λ k q n. rw q at (fixed os i o (whole .noBar) e r (rw q n)) in
-    let width : (s : Scalar) → kind o ≡ scalar s → length (o .body) ≡ widthOf s = λ s k. whole-of (row (scalar s)) (o .body) (scalar-tlvs s) (shape (scalar s) k refl) in
+    let shape = fixed os i o (whole .noBar) e r in
+    let width : (s : Scalar) → kind o ≡ scalar s → length (o .body) ≡ widthOf s = λ s k. whole-of (row (scalar s)) (o .body) (scalar-tlvs s) (rw k at (shape (rw k))) in
     record {
-      nodes = λ n k. let h = base-of (row (node n)) (o .body) (shape (node n) k refl) in omega (arith, node-base n);
+      nodes = λ h l. let b = base-of (row (kind o)) (o .body) (shape (node-known (o .type) h l)) in omega (arith, node-base (o .type) h l);
       scalars = width;
       received = λ s k b. body-fits s (o .body) (body-bytes os i o (data-bytes bs os b (whole .whole)) e) (width s k);
       link = link-fits;

@@ -7,7 +7,7 @@ use mathlib.Core.Option.{some}
 use lib.ListN.{length, getD, getElem?, drop, set}
 use Rattle.model.specs.declared.Own.{Own}
 use Rattle.model.specs.declared.Neighbour.{Neighbour}
-use Rattle.model.specs.Object.{Object, lql, kind, recorded, role}
+use Rattle.model.specs.Object.{Object, recorded, role}
 use Rattle.model.specs.Reading.{wellFormed, reading}
 use Rattle.model.specs.Update.{updateObject}
 
@@ -44,12 +44,12 @@ pub record Counts (full value : ℕ) (subs : List ℕ → List Counter) (receive
   pub reserved : getD sent 0 0 ≡ 0
   pub counted : Gains full value (subs (drop 1 received)) (subs (drop 1 sent)) ⊎ Opens full value (subs (drop 1 received)) (subs (drop 1 sent))
 
--- recorded LQL: the link's level is counted, up to 31
+-- recorded LQL (type 6): the link's level is counted, up to 31
 abbrev pub CountsLevel : Type 0
-CountsLevel = (own : Own) (c : Neighbour) (o : Object) → kind o ≡ lql → role o ≡ recorded → 2 ≤ length (o .body)
+CountsLevel = (own : Own) (c : Neighbour) (o : Object) → o .type ≡ 6 → role o ≡ recorded → 2 ≤ length (o .body)
     → Counts 31 (c .lql) levels (o .body) (updateObject own c o .body)
 
 -- in a well-formed container a recorded LQL has two bytes or more, as that asks
 abbrev pub RecordsWhole : Type 0
-RecordsWhole = (bs : List ℕ) (os : List Object) (i : ℕ) (o : Object) → reading bs ≡ wellFormed os → getElem? os i ≡ some o → role o ≡ recorded → kind o ≡ lql
+RecordsWhole = (bs : List ℕ) (os : List Object) (i : ℕ) (o : Object) → reading bs ≡ wellFormed os → getElem? os i ≡ some o → role o ≡ recorded → o .type ≡ 6
     → 2 ≤ length (o .body)

@@ -11,9 +11,9 @@ use Rattle.model.specs.declared.Own.{Own}
 use Rattle.model.specs.declared.Neighbour.{Neighbour}
 use Rattle.model.specs.declared.Candidate.{Candidate}
 use Rattle.model.specs.Number.{isSet, isUnknown, number}
-use Rattle.model.specs.Object.{Object, bitP, bitC, bitO, bitR, fieldA, fieldPrec, isRecorded, Scalar, scalar, Node, node, nsa, ne, hp, kind, aggregated, role, throughput, latency, etx, known}
+use Rattle.model.specs.Object.{Object, bitP, bitC, bitO, bitR, fieldA, fieldPrec, isRecorded, Scalar, scalar, kind, aggregated, role, throughput, latency, etx, known}
 use Rattle.model.specs.Reading.{wellFormed, reading}
-use Rattle.model.specs.Constraint.{energyIn, linkValue}
+use Rattle.model.specs.Constraint.{linkValue}
 use Rattle.model.specs.Update.{widthOf, mostOf, updateObject}
 use Rattle.model.specs.Choice.{call}
 use Rattle.model.specs.Selection.{PreferredParent}
@@ -65,9 +65,9 @@ abbrev pub NoSumWraps : Type 0
 NoSumWraps = (own : Own) (c : Neighbour) (o : Object) (s : Scalar) (v : ℕ) → kind o ≡ scalar s → role o ≡ aggregated → linkValue c s ≡ Known v
     → length (o .body) ≡ widthOf s → Aggregates own c o s v
 
--- the HP metric's count rises by one, up to 255
+-- the count of an HP metric (type 3) rises by one, up to 255
 abbrev pub CountsHop : Type 0
-CountsHop = (own : Own) (c : Neighbour) (o : Object) → kind o ≡ node hp → role o ≡ aggregated → fieldA o ≡ 0 → 2 ≤ length (o .body)
+CountsHop = (own : Own) (c : Neighbour) (o : Object) → o .type ≡ 3 → role o ≡ aggregated → fieldA o ≡ 0 → 2 ≤ length (o .body)
     → Sum 255 (getD (o .body) 1 0) 1 (getD (updateObject own c o .body) 1 0)
 
 -- byte 1 of an aggregated NSA metric as updated: each flag by itself with the own one, and the other six bits 0
@@ -76,15 +76,15 @@ pub record FlagsPicked (own : Own) (o : Object) (sent : ℕ) : Type 0 where
   pub overload : Picked (fieldA o) (getD (o .body) 1 0 % 2) (own .flags % 2) (sent % 2)
   pub others : sent / 4 ≡ 0
 
--- of every aggregated NSA metric
+-- of every aggregated NSA metric (type 1)
 abbrev pub PicksFlags : Type 0
-PicksFlags = (own : Own) (c : Neighbour) (o : Object) → kind o ≡ node nsa → role o ≡ aggregated → 2 ≤ length (o .body)
+PicksFlags = (own : Own) (c : Neighbour) (o : Object) → o .type ≡ 1 → role o ≡ aggregated → 2 ≤ length (o .body)
     → FlagsPicked own o (getD (updateObject own c o .body) 1 0)
 
--- an aggregated NE metric's E_E with the own energy, where that is known
+-- E_E of an aggregated NE metric (type 2) with the own energy, where that is known (flag 0x04)
 abbrev pub PicksEnergy : Type 0
-PicksEnergy = (own : Own) (c : Neighbour) (o : Object) (v : ℕ) → kind o ≡ node ne → role o ≡ aggregated → energyIn (own .flags) (own .energy) ≡ Known v
-    → 2 ≤ length (o .body) → Picked (fieldA o) (getD (o .body) 1 0) v (getD (updateObject own c o .body) 1 0)
+PicksEnergy = (own : Own) (c : Neighbour) (o : Object) → o .type ≡ 2 → role o ≡ aggregated → own .flags / 4 % 2 ≡ 1 → 2 ≤ length (o .body)
+    → Picked (fieldA o) (getD (o .body) 1 0) (own .energy) (getD (updateObject own c o .body) 1 0)
 
 -- the link's numbers are within their types: 16 bits of ETX, 32 of latency and of throughput
 pub record LinkWithin (c : Neighbour) : Type 0 where
@@ -95,7 +95,7 @@ pub record LinkWithin (c : Neighbour) : Type 0 where
 -- what these statements ask of an aggregated metric in a container: the bytes of its body; of bytes, and of a link's numbers within
 -- their types, that the received value and the link's fit the field
 pub record Whole (container : List ℕ) (o : Object) : Type 0 where
-  pub nodes : (n : Node) → kind o ≡ node n → 2 ≤ length (o .body)
+  pub nodes : 1 ≤ o .type → o .type ≤ 3 → 2 ≤ length (o .body)
   pub scalars : (s : Scalar) → kind o ≡ scalar s → length (o .body) ≡ widthOf s
   pub received : (s : Scalar) → kind o ≡ scalar s → Bytes container → number (o .body) ≤ mostOf s
   pub link : (s : Scalar) (c : Neighbour) (v : ℕ) → LinkWithin c → linkValue c s ≡ Known v → v ≤ mostOf s

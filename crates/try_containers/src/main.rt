@@ -27,7 +27,7 @@ fn say_reading(container: &[u8]) {
         }
         Reading::WellFormed {
             count,
-            constrained: _,
+            mandatory: _,
             hops,
         } => {
             say(b" objects ");

@@ -39,7 +39,7 @@ read-objects (wellFormed os) n k h e = (os, refl)
 pub read-as : (x : Reading) (n : ℕ) (k : Bool) (h : ℕ) → WellFormed n k h ≡ readingOf x → (os : List Object) → x ≡ wellFormed os → ReadAs n k h os
 read-as x n k h e os q =
     let r : WellFormed n k h ≡ WellFormed (length os) (anyOf mandatory os) (hopsOf (hopCount os)) = e ∙ ap readingOf q in
-    record { objects = cc; constraints = cc; hop-metric = cc }
+    record { objects = cc; mandatories = cc; hop-metric = cc }
 
 -- the summary by the count of the HP metric
 pub summary-by : (s : Summary) (n : ℕ) (os : List Object) → hopsOf (s .hops) ≡ n → n ≡ hopsOf (hopCount os) → s ≡ summary os
@@ -52,15 +52,15 @@ summary-by s n os e q = ap (λ (x : Quantity). record { hops = x }) (go (s .hops
     go Unknown Unknown e = refl
 
 -- without mandatory constraints no object bars
-pub no-constraints : (c : Neighbour) (s : Summary) (os : List Object) → false ≡ anyOf mandatory os → firstOf (constraintBar c s) os ≡ 0
+pub no-mandatory : (c : Neighbour) (s : Summary) (os : List Object) → false ≡ anyOf mandatory os → firstOf (constraintBar c s) os ≡ 0
 unfolding firstOf constraintBar
-no-constraints c s [] e = refl
-no-constraints c s (o ∷ os) e = let (a, b) = neither (mandatory o) (anyOf mandatory os) (sym e) in rw a (no-constraints c s os (sym b))
+no-mandatory c s [] e = refl
+no-mandatory c s (o ∷ os) e = let (a, b) = neither (mandatory o) (anyOf mandatory os) (sym e) in rw a (no-mandatory c s os (sym b))
 
 module _ {n : ℕ} {k : Bool} {h : ℕ} (c : Neighbour) where
   pub bars-none : (os : List Object) → ReadAs n k h os → k ≡ false → BarsFirst c (summary os) os (record { number = 0; place = n })
   bars-none os w e =
-      let none = no-constraints c (summary os) os (sym e ∙ w .constraints) in
+      let none = no-mandatory c (summary os) os (sym e ∙ w .mandatories) in
       record { number = sym none; place = w .objects ∙ sym (index-none (constraintBar c (summary os)) os none) }
 
   -- the tests with the summary that code makes

@@ -29,9 +29,9 @@ pub record WellFormed (bs : List ℕ) : Type 0 where
   pub read : reading bs ≡ wellFormed objects
 
 -- what was read of a well-formed container's objects: their number, whether some are mandatory constraints, and the count of the HP metric
-pub record ReadAs (count : ℕ) (constrained : Bool) (hops : ℕ) (os : List Object) : Type 0 where
+pub record ReadAs (count : ℕ) (asked : Bool) (hops : ℕ) (os : List Object) : Type 0 where
   pub objects : count ≡ length os
-  pub constraints : constrained ≡ anyOf mandatory os
+  pub mandatories : asked ≡ anyOf mandatory os
   pub hop-metric : hops ≡ hopsOf (hopCount os)
 
 -- the first object with bar 18 or 19, by number and index

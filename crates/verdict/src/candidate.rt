@@ -91,14 +91,14 @@ fn summary_of(hops: u16) -> Summary
 fn barring_of(
     neighbour: Neighbour,
     count: u16,
-    constrained: bool,
+    mandatory: bool,
     hops: u16,
     container: &[u8],
 ) -> Barring
     requires { ⌜ WellFormed (now container) ⌝ }
-    ensures { λ r. ⌜ ((os : List Object) → reading (now (container .entry)) ≡ wellFormed os → ReadAs count constrained hops os → BarsFirst neighbour (summary os) os r) ⌝ }
+    ensures { λ r. ⌜ ((os : List Object) → reading (now (container .entry)) ≡ wellFormed os → ReadAs count mandatory hops os → BarsFirst neighbour (summary os) os r) ⌝ }
 {
-    if !constrained {
+    if !mandatory {
         return Barring {
             number: 0,
             place: count,
@@ -115,10 +115,10 @@ fn judge_container(own: Own, neighbour: Neighbour, container: &[u8]) -> Verdict
         Reading::Refused { number, place } => Verdict::Barred { number, place },
         Reading::WellFormed {
             count,
-            constrained,
+            mandatory,
             hops,
         } => {
-            let barring = barring_of(neighbour, count, constrained, hops, container);
+            let barring = barring_of(neighbour, count, mandatory, hops, container);
             if barring.number != 0 {
                 return Verdict::Barred {
                     number: barring.number,

@@ -2,18 +2,26 @@
 ghost use mathlib.Core.Path.{_≡_};
 ghost use Prim.Native.Nat.{_/_};
 ghost use mathlib.Core.Bool.{true, _&&_};
+ghost use mathlib.Core.List.{[]};
 ghost use lib.Dec.{leb, ltb};
 ghost use Rattle.model.specs.Number.{satisfies};
 ghost use Rattle.model.specs.Object.{kindOf, throughput, latency, etx};
 ghost use Rattle.model.specs.Table.{row};
 ghost use Rattle.model.specs.Reading.{fixedShape};
-ghost use Rattle.model.specs.Constraint.{isAggregator, isOverloaded, energyIn, linkValue, metNsa, metNe, met};
+ghost use Rattle.model.specs.Constraint.{isAggregator, isOverloaded, energyIn, linkValue, metNsa, metNe, met, mandatory};
 ghost use Rattle.wire.specs.Step.{objectOf};
 ghost use Rattle.verdict.specs.Judged.{Tabled, barHolds};
 use model::Neighbour;
 use model::Quantity;
 use model::Summary;
 use wire::Header;
+
+// Whether an object is a mandatory constraint.
+fn is_mandatory(header: Header) -> bool
+    ensures { λ r. ⌜ r ≡ mandatory (objectOf header []) ⌝ }
+{
+    wire::is_constraint(header) & (header.flags % 2 != 1)
+}
 
 // NSA: the aggregator bit asks for an aggregating neighbour, the overload bit for one that is not overloaded.
 fn meets_nsa(neighbour: Neighbour, asked: u8) -> bool
@@ -115,7 +123,7 @@ pub(crate) fn holds(
     requires { ⌜ Tabled (objectOf header (now body)) ⌝ }
     ensures { λ r. ⌜ r ≡ barHolds bar neighbour summary (objectOf header (now (body .entry))) ⌝ }
 {
-    if !wire::is_mandatory(header) {
+    if !is_mandatory(header) {
         return false;
     }
     if !wire::is_known(header.mctype) {

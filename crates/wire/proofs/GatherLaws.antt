@@ -14,7 +14,9 @@ use Rattle.model.proofs.ListLaws.{any-append}
 use Rattle.model.proofs.CutLaws.{no-bar}
 use Rattle.wire.specs.declared.container.Gathered.{Gathered}
 use Rattle.wire.specs.declared.container.Reading.the-variants.{Refused, WellFormed}
+use Rattle.wire.specs.Row.{hasBit}
 use Rattle.wire.specs.Seen.{Marks}
+use Rattle.wire.specs.Mandatory.{showsMandatory}
 use Rattle.wire.specs.Gathered.{Gathers, wholeReading}
 use Rattle.wire.specs.Reading.{hopsOf, readingOf}
 use Rattle.wire.proofs.BarLaws.{bar-unknown}
@@ -40,14 +42,14 @@ place-none : (os : List Object) → barAmong os ≡ 0 → indexAmong os ≡ leng
 place-none os e = index-none objectBar (standings [] os) e ∙ length-standings [] os
 
 -- some object is a mandatory constraint, with one object more
-mandatory-with : (b k : Bool) (es : List Object) (a : Object) → b ≡ anyOf mandatory es → k ≡ mandatory a → b || k ≡ anyOf mandatory (es ++ (a ∷ []))
-mandatory-with b k es a e q = rw (any-append mandatory es (a ∷ []), or-false (mandatory a), ← e, ← q)
+mandatory-with : (b c : Bool) (es : List Object) (a : Object) → b ≡ anyOf mandatory es → c ≡ b || mandatory a → c ≡ anyOf mandatory (es ++ (a ∷ []))
+mandatory-with b c es a e q = rw (any-append mandatory es (a ∷ []), or-false (mandatory a), ← e) q
 
 -- ---- what is gathered
 
-pub gathers-none : Gathers (record { number = 0; place = 0; seen = 0; hops = 0; constrained = false }) []
-unfolding firstOf indexOf standings hopCount
-gathers-none = record { number = refl; place = refl; seen = λ e. no-marks; hops = λ e. refl; constrained = λ e. refl }
+pub gathers-none : Gathers (record { number = 0; place = 0; seen = 0; hops = 0; flags = 0 }) []
+unfolding firstOf indexOf standings hopCount showsMandatory hasBit
+gathers-none = record { number = refl; place = refl; seen = λ e. no-marks; hops = λ e. refl; shown = λ e. refl }
 
 -- no more objects stand before the place than there are
 pub gathers-le : (g : Gathered) (es : List Object) → Gathers g es → g .place ≤ length es
@@ -58,23 +60,23 @@ module _ (g : Gathered) (es : List Object) (o : Object) (w : Gathers g es) where
   pub gathers-kept : (g .number ≡ 0 → ⊥) → Gathers g (es ++ (o ∷ []))
   gathers-kept h =
       let n : g .number ≡ barAmong (es ++ (o ∷ [])) = w .number ∙ sym (bar-snoc es o ∙ go (barAmong es) (λ e. h (w .number ∙ e))) in
-      record { number = n; place = w .place ∙ sym (place-snoc es o (λ e. h (n ∙ e))); seen = λ e. absurd (h e); hops = λ e. absurd (h e); constrained = λ e. absurd (h e) }
+      record { number = n; place = w .place ∙ sym (place-snoc es o (λ e. h (n ∙ e))); seen = λ e. absurd (h e); hops = λ e. absurd (h e); shown = λ e. absurd (h e) }
     where
       go : (a : ℕ) → (a ≡ 0 → ⊥) → first a (objectBar (record { earlier = es; object = o })) ≡ a
       go zero h = absurd (h refl)
       go (suc a) h = refl
 
   -- the first bar
-  pub gathers-bar : (n : ℕ) (f : Bool) → g .number ≡ 0 → n ≡ objectBar (record { earlier = es; object = o }) → (n ≡ 0 → ⊥)
-      → Gathers (record { number = n; place = g .place; seen = g .seen; hops = g .hops; constrained = f }) (es ++ (o ∷ []))
+  pub gathers-bar : (n f : ℕ) → g .number ≡ 0 → n ≡ objectBar (record { earlier = es; object = o }) → (n ≡ 0 → ⊥)
+      → Gathers (record { number = n; place = g .place; seen = g .seen; hops = g .hops; flags = f }) (es ++ (o ∷ []))
   gathers-bar n f z e h =
       let q : n ≡ barAmong (es ++ (o ∷ [])) = e ∙ sym (bar-snoc es o ∙ rw (← w .number, z)) in
-      record { number = q; place = w .place ∙ sym (place-snoc es o (λ x. h (q ∙ x))); seen = λ x. absurd (h x); hops = λ x. absurd (h x); constrained = λ x. absurd (h x) }
+      record { number = q; place = w .place ∙ sym (place-snoc es o (λ x. h (q ∙ x))); seen = λ x. absurd (h x); hops = λ x. absurd (h x); shown = λ x. absurd (h x) }
 
   -- no bar
-  pub gathers-more : (s q : ℕ) (k : Bool) → k ≡ mandatory o → g .number ≡ 0 → 0 ≡ objectBar (record { earlier = es; object = o }) → Marks s (es ++ (o ∷ [])) → q ≡ hopsOf (hopCount (es ++ (o ∷ [])))
-      → Gathers (record { number = 0; place = g .place + 1; seen = s; hops = q; constrained = g .constrained || k }) (es ++ (o ∷ []))
-  gathers-more s q k a z e m p =
+  pub gathers-more : (s q f : ℕ) → showsMandatory f ≡ showsMandatory (g .flags) || mandatory o → g .number ≡ 0 → 0 ≡ objectBar (record { earlier = es; object = o }) → Marks s (es ++ (o ∷ [])) → q ≡ hopsOf (hopCount (es ++ (o ∷ [])))
+      → Gathers (record { number = 0; place = g .place + 1; seen = s; hops = q; flags = f }) (es ++ (o ∷ []))
+  gathers-more s q f a z e m p =
       let n : barAmong (es ++ (o ∷ [])) ≡ 0 = bar-snoc es o ∙ rw (← w .number, z) (sym e) in
       let l : g .place ≡ length es = w .place ∙ place-none es (sym (w .number) ∙ z) in
       record {
@@ -82,14 +84,14 @@ module _ (g : Gathered) (es : List Object) (o : Object) (w : Gathers g es) where
         place = rw (l, place-none (es ++ (o ∷ [])) n, length-append es (o ∷ []));
         seen = λ x. m;
         hops = λ x. p;
-        constrained = λ x. mandatory-with (g .constrained) k es o (w .constrained z) a;
+        shown = λ x. mandatory-with (showsMandatory (g .flags)) (showsMandatory f) es o (w .shown z) a;
       }
 
   -- an object of unknown type
-  pub gathers-unknown : (k : Bool) → k ≡ mandatory o → g .number ≡ 0 → known (kind o) ≡ false
-      → Gathers (record { number = 0; place = g .place + 1; seen = g .seen; hops = g .hops; constrained = g .constrained || k }) (es ++ (o ∷ []))
-  gathers-unknown k a z u =
-      gathers-more (g .seen) (g .hops) k a z (bar-unknown es o u) (marks-unknown (g .seen) es o (w .seen z) u) (w .hops z ∙ sym (ap hopsOf (hops-unknown es o u)))
+  pub gathers-unknown : (f : ℕ) → showsMandatory f ≡ showsMandatory (g .flags) || mandatory o → g .number ≡ 0 → known (kind o) ≡ false
+      → Gathers (record { number = 0; place = g .place + 1; seen = g .seen; hops = g .hops; flags = f }) (es ++ (o ∷ []))
+  gathers-unknown f a z u =
+      gathers-more (g .seen) (g .hops) f a z (bar-unknown es o u) (marks-unknown (g .seen) es o (w .seen z) u) (w .hops z ∙ sym (ap hopsOf (hops-unknown es o u)))
 
 -- an object without a bar is of a use that was not seen
 pub bar-fresh : (es : List Object) (o : Object) → known (kind o) ≡ true → objectBar (record { earlier = es; object = o }) ≡ 0 → anyOf (sameUse o) es ≡ false
@@ -110,7 +112,7 @@ gathers-refused g os w h = rw (w .number, w .place) (go (barAmong os) (λ e. h (
     go zero h = absurd (h refl)
     go (suc n) h = refl
 
-pub gathers-whole : (g : Gathered) (os : List Object) → Gathers g os → g .number ≡ 0 → WellFormed (g .place) (g .constrained) (g .hops) ≡ readingOf (wholeReading os)
-gathers-whole g os w z =
+pub gathers-whole : (g : Gathered) (os : List Object) (m : Bool) → Gathers g os → g .number ≡ 0 → m ≡ showsMandatory (g .flags) → WellFormed (g .place) m (g .hops) ≡ readingOf (wholeReading os)
+gathers-whole g os m w z e =
     let n : barAmong os ≡ 0 = sym (w .number) ∙ z in
-    rw (w .place, w .constrained z, w .hops z, place-none os n, n)
+    rw (w .place, e, w .shown z, w .hops z, place-none os n, n)

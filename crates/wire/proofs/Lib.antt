@@ -6,7 +6,9 @@ pub mod WalkLaws
 pub mod TlvLaws
 pub mod BodyLaws
 pub mod BarLaws
+pub mod BitLaws
 pub mod SeenLaws
+pub mod MandatoryLaws
 pub mod GatherLaws
 pub mod HopLaws
 pub mod ReadLaws

@@ -29,7 +29,7 @@ pub record Pass (bs : List ℕ) (p : Cursor) (g : Gathered) : Type 0 where
   pub gathers : Gathers g earlier
   pub clear : g .number ≡ 0
 
-pub pass-first : (bs : List ℕ) (p : Cursor) → p ≡ firstCursor → Pass bs p (record { number = 0; place = 0; seen = 0; hops = 0; constrained = false })
+pub pass-first : (bs : List ℕ) (p : Cursor) → p ≡ firstCursor → Pass bs p (record { number = 0; place = 0; seen = 0; hops = 0; flags = 0 })
 pass-first bs p e = rw e (record { earlier = []; walked = walk-first bs; gathers = gathers-none; clear = refl })
 
 -- one object more

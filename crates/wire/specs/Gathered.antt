@@ -15,6 +15,7 @@ use Rattle.wire.specs.declared.container.Gathered.{Gathered}
 use Rattle.wire.specs.declared.container.Reading.{Reading}
 use Rattle.wire.specs.declared.container.Reading.the-variants.{Refused}
 use Rattle.wire.specs.Seen.{Marks}
+use Rattle.wire.specs.Mandatory.{showsMandatory}
 use Rattle.wire.specs.Reading.{hopsOf}
 
 -- the first bar among the objects, with its index; as long as there is none, the number of objects in its place, the uses seen, the count of the HP metric, and whether some are mandatory constraints
@@ -23,7 +24,7 @@ pub record Gathers (g : Gathered) (es : List Object) : Type 0 where
   pub place : g .place ≡ indexOf objectBar (standings [] es)
   pub seen : g .number ≡ 0 → Marks (g .seen) es
   pub hops : g .number ≡ 0 → g .hops ≡ hopsOf (hopCount es)
-  pub constrained : g .number ≡ 0 → g .constrained ≡ anyOf mandatory es
+  pub shown : g .number ≡ 0 → showsMandatory (g .flags) ≡ anyOf mandatory es
 
 -- the reading of a container whose objects are whole
 abbrev pub wholeReading : List Object → model.Reading

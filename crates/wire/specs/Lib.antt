@@ -6,4 +6,5 @@ pub mod Reading
 pub mod Put
 pub mod Tlv
 pub mod Seen
+pub mod Mandatory
 pub mod Gathered

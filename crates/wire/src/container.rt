@@ -12,6 +12,7 @@ ghost use Rattle.wire.specs.Step.{objectOf};
 ghost use Rattle.wire.specs.Gathered.{Gathers, wholeReading, wholeFrom, barredBy};
 ghost use Rattle.wire.specs.Reading.{hopsOf, readingOf};
 use crate::bars;
+use crate::mandatory;
 use crate::objects;
 use crate::objects::Cursor;
 use crate::objects::Header;
@@ -28,19 +29,19 @@ pub enum Reading {
     },
     WellFormed {
         count: u16,
-        constrained: bool,
+        mandatory: bool,
         hops: u16,
     },
 }
 
 // What is gathered of the objects up to the first with a bar: its number, or 0; its index, or the number of objects; the
-// uses seen; one more than the count of the HP metric, 0 for none; whether some are mandatory constraints.
+// uses seen; one more than the count of the HP metric, 0 for none; the flags seen, by bits. Numbers alone stay in registers.
 pub struct Gathered {
     pub number: u8,
     pub place: u16,
     pub seen: u16,
     pub hops: u16,
-    pub constrained: bool,
+    pub flags: u32,
 }
 
 // Bar 13.
@@ -75,14 +76,14 @@ fn gather(g: Gathered, header: Header, body: &[u8]) -> Gathered
     requires { ⌜ g .number ≡ 0 ⌝ }
     ensures { λ r. ⌜ ((es : List Object) → Gathers g es → Gathers r (es ++ (objectOf header (now (body .entry)) ∷ []))) ⌝ }
 {
-    let constrained = g.constrained | objects::is_mandatory(header);
+    let flags = mandatory::shown_with(g.flags, header);
     if !table::is_known(header.mctype) {
         return Gathered {
             number: 0,
             place: g.place + 1,
             seen: g.seen,
             hops: g.hops,
-            constrained,
+            flags,
         };
     }
     let number = bars::object_bar(header, body, seen::has(g.seen, header));
@@ -92,7 +93,7 @@ fn gather(g: Gathered, header: Header, body: &[u8]) -> Gathered
             place: g.place,
             seen: g.seen,
             hops: g.hops,
-            constrained,
+            flags,
         };
     }
     Gathered {
@@ -100,7 +101,7 @@ fn gather(g: Gathered, header: Header, body: &[u8]) -> Gathered
         place: g.place + 1,
         seen: seen::with(g.seen, header),
         hops: hops_with(g.hops, header, body),
-        constrained,
+        flags,
     }
 }
 
@@ -111,7 +112,7 @@ fn conclude(g: Gathered) -> Reading
 {
     Reading::WellFormed {
         count: g.place,
-        constrained: g.constrained,
+        mandatory: mandatory::is_shown(g.flags),
         hops: g.hops,
     }
 }
@@ -165,7 +166,7 @@ fn read_objects(container: &[u8]) -> Reading
         place: 0,
         seen: 0,
         hops: 0,
-        constrained: false,
+        flags: 0,
     };
     loop {
         match objects::next(container, cursor) {

@@ -2,6 +2,7 @@
 mod bars;
 mod bodies;
 mod container;
+mod mandatory;
 mod numbers;
 mod objects;
 mod seen;
@@ -16,7 +17,6 @@ pub use objects::Header;
 pub use objects::Step;
 pub use objects::first;
 pub use objects::is_constraint;
-pub use objects::is_mandatory;
 pub use objects::is_recorded;
 pub use objects::next;
 pub use table::Row;

@@ -1,9 +1,7 @@
 // The step from one object of a container to the next, which every pass over a container takes.
 ghost use mathlib.Core.Path.{_≡_};
-ghost use mathlib.Core.List.{[]};
 ghost use Rattle.model.specs.Object.{isConstraint, isRecorded, roleOf};
-ghost use Rattle.model.specs.Constraint.{mandatory};
-ghost use Rattle.wire.specs.Step.{firstCursor, stepAt, objectOf};
+ghost use Rattle.wire.specs.Step.{firstCursor, stepAt};
 
 // Header bytes 0 to 2 of an object: its type (Routing-MC-Type); the flags P, C and O; the mode R, A and Prec.
 pub struct Header {
@@ -72,13 +70,6 @@ pub fn is_constraint(header: Header) -> bool
     ensures { λ r. ⌜ r ≡ isConstraint (roleOf (header .flags) (header .mode)) ⌝ }
 {
     header.flags / 2 % 2 == 1
-}
-
-// Whether an object is a mandatory constraint.
-pub fn is_mandatory(header: Header) -> bool
-    ensures { λ r. ⌜ r ≡ mandatory (objectOf header []) ⌝ }
-{
-    is_constraint(header) & (header.flags % 2 != 1)
 }
 
 // Whether an object is a recorded metric.

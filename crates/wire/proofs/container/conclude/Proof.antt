@@ -1,9 +1,13 @@
+use borrow.Author.Needs.{needs}
 use Rattle.wire.proofs.GatherLaws.{gathers-whole}
 use Rattle.wire.proofs.container.conclude.Statement.{statement}
 use Rattle.wire.proofs.container.conclude.Tie as tie
 
+is-shown-requires : tie.Need-is-shown-requires
+is-shown-requires c κs = search needs
+
 returns : tie.Need-returns
-returns c = λ os w. gathers-whole _ os w (c .pre)
+returns c = λ os w. gathers-whole _ os _ w (c .before .pre) (c .is-shown .ensures)
 
 pub conclude-spec : {M : Type 1} → statement M
-conclude-spec = tie.close (tie.spec returns)
+conclude-spec = tie.close (tie.spec is-shown-requires returns)

@@ -6,8 +6,8 @@ use Rattle.wire.proofs.GatherLaws.{gathers-unknown, gathers-bar, gather
 use Rattle.wire.proofs.container.gather.Statement.{statement}
 use Rattle.wire.proofs.container.gather.Tie as tie
 
-is-mandatory-requires : tie.Need-is-mandatory-requires
-is-mandatory-requires c κs = search needs
+shown-with-requires : tie.Need-shown-with-requires
+shown-with-requires c κs = search needs
 
 is-known-requires : tie.Need-is-known-requires
 is-known-requires c κs = search needs
@@ -18,8 +18,8 @@ add-t8 c = search needs
 returns : tie.Need-returns
 returns c = λ es w.
     let tested = c .before in
-    let start = tested .before .before .before .before .before in
-    gathers-unknown _ es (objectOf (start .args .header) (start .args .body .now)) w _ (tested .before .before .before .is-mandatory .ensures) (start .pre .1) (sym (tested .before .is-known .ensures) ∙ not-true _ (tested .if1 .taken))
+    let start = tested .before .before .before .before in
+    gathers-unknown _ es (objectOf (start .args .header) (start .args .body .now)) w _ (tested .before .before .shown-with .ensures) (start .pre .1) (sym (tested .before .is-known .ensures) ∙ not-true _ (tested .if1 .taken))
 
 has-requires : tie.Need-has-requires
 has-requires c κs = search needs
@@ -29,7 +29,7 @@ object-bar-requires c κs = search needs
 
 returns-2 : tie.Need-returns-2
 returns-2 c = λ es w.
-    let start = c .before .before .before .before .before .before .before .before in
+    let start = c .before .before .before .before .before .before .before in
     gathers-bar _ es (objectOf (start .args .header) (start .args .body .now)) w _ _ (start .pre .1)
     (c .before .object-bar .ensures es (λ k. c .before .before .has .ensures es (w .seen (start .pre .1)) k)) (c .if2 .taken)
 
@@ -46,14 +46,14 @@ returns-3 : tie.Need-returns-3
 returns-3 c = λ es w.
     let barred = c .before .before .before .before in
     let tested = barred .before .before in
-    let start = tested .before .before .before .before .before in
+    let start = tested .before .before .before .before in
     let o = objectOf (start .args .header) (start .args .body .now) in
     let z = start .pre .1 in
     let known = sym (tested .before .is-known .ensures) ∙ not-false _ (tested .if1 .left) in
     let bar = sym (c .before .before .before .if2 .left) ∙ barred .object-bar .ensures es (λ k. barred .before .has .ensures es (w .seen z) k) in
-    gathers-more _ es o w _ _ _ (tested .before .before .before .is-mandatory .ensures) z bar (c .before .with .ensures es (start .args .body .now) (w .seen z)) (c .hops-with .ensures es (w .hops z) (bar-fresh es o known (sym bar)))
+    gathers-more _ es o w _ _ _ (tested .before .before .shown-with .ensures) z bar (c .before .with .ensures es (start .args .body .now) (w .seen z)) (c .hops-with .ensures es (w .hops z) (bar-fresh es o known (sym bar)))
 
 pub gather-spec : {M : Type 1} → statement M
 gather-spec =
     tie.close
-    (tie.spec is-mandatory-requires is-known-requires add-t8 returns has-requires object-bar-requires returns-2 add-t9 with-requires hops-with-requires returns-3)
+    (tie.spec shown-with-requires is-known-requires add-t8 returns has-requires object-bar-requires returns-2 add-t9 with-requires hops-with-requires returns-3)

@@ -1,6 +1,6 @@
 use borrow.Author.Needs.{needs}
-use Rattle.wire.proofs.objects.is_mandatory.Statement.{statement}
-use Rattle.wire.proofs.objects.is_mandatory.Tie as tie
+use Rattle.verdict.proofs.constraints.is_mandatory.Statement.{statement}
+use Rattle.verdict.proofs.constraints.is_mandatory.Tie as tie
 
 is-constraint-requires : tie.Need-is-constraint-requires
 is-constraint-requires c κs = search needs
