@@ -15,6 +15,7 @@ boundaries = record {
   bodies = refl;
   bodyTlvs = refl;
   objectUses = refl;
+  objectRepeats = refl;
   bar18 = refl;
   bar19Nodes = refl;
   bar19Links = refl;

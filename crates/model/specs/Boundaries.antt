@@ -9,6 +9,7 @@ pub mod Aggregates
 pub mod Records
 pub mod Choices
 pub mod Places
+pub mod Repeats
 pub mod Listings
 pub mod Cuts
 pub mod Bits
@@ -25,6 +26,7 @@ use Aggregates.{linkSums, nodeSums}
 use Records.{records, constraints, headers, orders}
 use Choices.{choices, containers}
 use Places.{places, placeGiven}
+use Repeats.{repeats, barGiven}
 use Listings.{lines}
 use Cuts.{cuts}
 use Bits.{verdicts, refusals as currentBit, containers as ownBits}
@@ -43,6 +45,7 @@ pub record Boundaries : Type 0 where
   pub bodies : Holds shapeVerdicts lengths
   pub bodyTlvs : Holds tlvVerdicts tlvs
   pub objectUses : Holds verdictOf uses
+  pub objectRepeats : Holds barGiven repeats
   -- bars 18 and 19
   pub bar18 : Holds verdictOf unknowns
   pub bar19Nodes : Holds verdictOf nodes

@@ -25,16 +25,16 @@ bit-pow k j h = go (ltb k j) refl
         ap (λ (m : ℕ). 2 ^ m / 2 ^ j % 2) d ∙ above (k - suc j)
 
 -- `1 << k` loses no bit, at any width
-shift-one : (w k : ℕ) → k < w → (1 * 2 ^ k) % 2 ^ w ≡ 2 ^ k
+pub shift-one : (w k : ℕ) → k < w → (1 * 2 ^ k) % 2 ^ w ≡ 2 ^ k
 shift-one w k h = shl-exact 1 k w (omega arith) (omega arith) ∙ one-mul (2 ^ k)
 
 or-bit : (n m j : ℕ) → bitOr n m / 2 ^ j % 2 ≡ bitOr (n / 2 ^ j % 2) (m / 2 ^ j % 2)
 or-bit n m j = ap (λ (x : ℕ). x % 2) (or-shr n m j) ∙ or-mod (n / 2 ^ j) (m / 2 ^ j) 1
 
--- what `n | (1 << k)` has is k, and what n has
-pub bit-with : (w n k j : ℕ) → k < w → hasBit (bitOr n ((1 * 2 ^ k) % 2 ^ w)) j ≡ hasBit n j || eqb k j
+-- n with bit k has that, and what n has
+pub bit-with : (n k j : ℕ) → hasBit (bitOr n (2 ^ k)) j ≡ hasBit n j || eqb k j
 unfolding hasBit
-bit-with w n k j h = rw (shift-one w k h, or-bit n (2 ^ k) j) (go (eqb k j) refl)
+bit-with n k j = rw (or-bit n (2 ^ k) j) (go (eqb k j) refl)
   where
     one : (x : ℕ) → x < 2 → eqb (bitOr x 1) 1 ≡ eqb x 1 || true
     one zero h = refl

@@ -15,12 +15,12 @@ use Rattle.model.proofs.CutLaws.{no-bar}
 use Rattle.wire.specs.declared.container.Gathered.{Gathered}
 use Rattle.wire.specs.declared.container.Reading.the-variants.{Refused, WellFormed}
 use Rattle.wire.specs.Row.{hasBit}
-use Rattle.wire.specs.Seen.{Marks}
+use Rattle.wire.specs.Seen.{seenFrom, withUse, hasUse, seenAfter, barBy}
 use Rattle.wire.specs.Mandatory.{showsMandatory}
 use Rattle.wire.specs.Gathered.{Gathers, wholeReading}
 use Rattle.wire.specs.Reading.{hopsOf, readingOf}
 use Rattle.wire.proofs.BarLaws.{bar-unknown}
-use Rattle.wire.proofs.SeenLaws.{no-marks, marks-unknown}
+use Rattle.wire.proofs.SeenLaws.{keeps-uses, seen-snoc, seen-exact}
 use Rattle.wire.proofs.HopLaws.{hops-unknown}
 
 -- the bar and the index among objects
@@ -48,8 +48,8 @@ mandatory-with b c es a e q = rw (any-append mandatory es (a ∷ []), or-false (
 -- ---- what is gathered
 
 pub gathers-none : Gathers (record { number = 0; place = 0; seen = 0; hops = 0; flags = 0 }) []
-unfolding firstOf indexOf standings hopCount showsMandatory hasBit
-gathers-none = record { number = refl; place = refl; seen = λ e. no-marks; hops = λ e. refl; shown = λ e. refl }
+unfolding firstOf indexOf standings hopCount showsMandatory hasBit seenFrom
+gathers-none = record { number = refl; place = refl; seen = λ e. refl; hops = λ e. refl; shown = λ e. refl }
 
 -- no more objects stand before the place than there are
 pub gathers-le : (g : Gathered) (es : List Object) → Gathers g es → g .place ≤ length es
@@ -66,6 +66,10 @@ module _ (g : Gathered) (es : List Object) (o : Object) (w : Gathers g es) where
       go zero h = absurd (h refl)
       go (suc a) h = refl
 
+  -- the bar that the bit gives
+  pub bar-seen : (n : ℕ) (seen : Bool) → g .number ≡ 0 → seen ≡ hasUse (g .seen) o → n ≡ barBy seen o → n ≡ objectBar (record { earlier = es; object = o })
+  bar-seen n seen z s e = e ∙ ap (λ b. barBy b o) (s ∙ ap (λ x. hasUse x o) (w .seen z)) ∙ sym (seen-exact es o .bar)
+
   -- the first bar
   pub gathers-bar : (n f : ℕ) → g .number ≡ 0 → n ≡ objectBar (record { earlier = es; object = o }) → (n ≡ 0 → ⊥)
       → Gathers (record { number = n; place = g .place; seen = g .seen; hops = g .hops; flags = f }) (es ++ (o ∷ []))
@@ -74,7 +78,7 @@ module _ (g : Gathered) (es : List Object) (o : Object) (w : Gathers g es) where
       record { number = q; place = w .place ∙ sym (place-snoc es o (λ x. h (q ∙ x))); seen = λ x. absurd (h x); hops = λ x. absurd (h x); shown = λ x. absurd (h x) }
 
   -- no bar
-  pub gathers-more : (s q f : ℕ) → showsMandatory f ≡ showsMandatory (g .flags) || mandatory o → g .number ≡ 0 → 0 ≡ objectBar (record { earlier = es; object = o }) → Marks s (es ++ (o ∷ [])) → q ≡ hopsOf (hopCount (es ++ (o ∷ [])))
+  pub gathers-more : (s q f : ℕ) → showsMandatory f ≡ showsMandatory (g .flags) || mandatory o → g .number ≡ 0 → 0 ≡ objectBar (record { earlier = es; object = o }) → s ≡ withUse (g .seen) o → q ≡ hopsOf (hopCount (es ++ (o ∷ [])))
       → Gathers (record { number = 0; place = g .place + 1; seen = s; hops = q; flags = f }) (es ++ (o ∷ []))
   gathers-more s q f a z e m p =
       let n : barAmong (es ++ (o ∷ [])) ≡ 0 = bar-snoc es o ∙ rw (← w .number, z) (sym e) in
@@ -82,7 +86,7 @@ module _ (g : Gathered) (es : List Object) (o : Object) (w : Gathers g es) where
       record {
         number = sym n;
         place = rw (l, place-none (es ++ (o ∷ [])) n, length-append es (o ∷ []));
-        seen = λ x. m;
+        seen = λ x. m ∙ ap (λ n. withUse n o) (w .seen z) ∙ sym (seen-snoc 0 es o);
         hops = λ x. p;
         shown = λ x. mandatory-with (showsMandatory (g .flags)) (showsMandatory f) es o (w .shown z) a;
       }
@@ -91,7 +95,7 @@ module _ (g : Gathered) (es : List Object) (o : Object) (w : Gathers g es) where
   pub gathers-unknown : (f : ℕ) → showsMandatory f ≡ showsMandatory (g .flags) || mandatory o → g .number ≡ 0 → known (kind o) ≡ false
       → Gathers (record { number = 0; place = g .place + 1; seen = g .seen; hops = g .hops; flags = f }) (es ++ (o ∷ []))
   gathers-unknown f a z u =
-      gathers-more (g .seen) (g .hops) f a z (bar-unknown es o u) (marks-unknown (g .seen) es o (w .seen z) u) (w .hops z ∙ sym (ap hopsOf (hops-unknown es o u)))
+      gathers-more (g .seen) (g .hops) f a z (bar-unknown (hasUse (seenAfter es) o) o u ∙ sym (seen-exact es o .bar)) (keeps-uses (g .seen) o u) (w .hops z ∙ sym (ap hopsOf (hops-unknown es o u)))
 
 -- an object without a bar is of a use that was not seen
 pub bar-fresh : (es : List Object) (o : Object) → known (kind o) ≡ true → objectBar (record { earlier = es; object = o }) ≡ 0 → anyOf (sameUse o) es ≡ false

@@ -15,7 +15,7 @@ use Rattle.model.proofs.ListLaws.{any-same, any-or}
 use Rattle.wire.specs.Row.{hasBit}
 use Rattle.wire.specs.Mandatory.{mandatoryFlags, showsMandatory}
 use Rattle.wire.proofs.HeaderLaws.{constraint-by}
-use Rattle.wire.proofs.BitLaws.{bit-with}
+use Rattle.wire.proofs.BitLaws.{shift-one, bit-with}
 
 -- the flags of mandatory constraints are those that are 2 modulo 4
 among : (k : ℕ) → k < 32 → anyOf (eqb k) mandatoryFlags ≡ eqb (k % 4) 2
@@ -37,6 +37,6 @@ pub shows-with : (n : ℕ) (o : Object) → showsMandatory (bitOr n ((1 * 2 ^ (o
 unfolding showsMandatory
 shows-with n o =
     let k = o .flags % 32 in
-    any-same (hasBit (bitOr n ((1 * 2 ^ k) % 4294967296))) (λ j. hasBit n j || eqb k j) (λ j. bit-with 32 n k j (omega arith)) mandatoryFlags
+    rw (shift-one 32 k (omega arith)) (any-same (hasBit (bitOr n (2 ^ k))) (λ j. hasBit n j || eqb k j) (λ j. bit-with n k j) mandatoryFlags)
     ∙ any-or (hasBit n) (eqb k) mandatoryFlags
     ∙ ap (λ b. anyOf (hasBit n) mandatoryFlags || b) (among k (omega arith) ∙ by-flags (o .flags) ∙ ap (λ b. b && not (eqb (o .flags % 2) 1)) (constraint-by (o .flags) (o .mode)))

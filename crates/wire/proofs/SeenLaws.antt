@@ -3,63 +3,103 @@ use mathlib.Core.Path.{_≡_, refl, sym, ap, _∙_}
 use Prim.Native.Nat.{ℕ, _+_, _-_, _*_, _/_, _%_, _^_, _≤_, _<_}
 use native.Mathlib.Nat.{zero-div}
 use native.Mathlib.Omega.{arith}
-use mathlib.Core.Bool.{Bool, true, false, _&&_, or-false, true≢false}
+use mathlib.Core.Bool.{Bool, true, false, _&&_, _||_, or-false, or-assoc, true≢false}
 use mathlib.Core.List.{List, [], _∷_, _++_}
 use lib.Dec.{eqb, leb}
 use lib.Bits.{bitOr}
 use borrow.Author.Tests.{eq-eqb, ne-eqb, eqb-true, eqb-false, leb-true}
 use Rattle.model.specs.Number.{anyOf}
-use Rattle.model.specs.Object.{Object, bitC, kind, known}
-use Rattle.model.specs.Reading.{sameUse}
+use Rattle.model.specs.Object.{Object, bitC, kind, kindOf, known}
+use Rattle.model.specs.Reading.{sameUse, objectBar}
 use Rattle.model.proofs.BoolLaws.{both}
-use Rattle.model.proofs.ListLaws.{any-append}
 use Rattle.model.proofs.TypeLaws.{known-types}
 use Rattle.wire.specs.Row.{hasBit}
-use Rattle.wire.specs.Seen.{useIndex, Marks}
-use Rattle.wire.proofs.BitLaws.{bit-with}
+use Rattle.wire.specs.Seen.{useIndex, hasUse, withUse, seenFrom, seenAfter, barBy, hasRoom, SeenExact, BitsApart}
+use Rattle.wire.specs.SeenRows.{SeenRows}
+use Rattle.wire.proofs.BitLaws.{shift-one, bit-with}
 
--- ---- uses
+-- ---- the bits of two uses
 
--- two objects of one use have one bit
-use-eqb : (o e : Object) → sameUse o e ≡ eqb (useIndex e) (useIndex o)
-use-eqb o e = go (eqb (e .type) (o .type)) (eqb (bitC e) (bitC o)) refl refl
+-- two objects of types from 1 on are of one use exactly where they have one bit
+use-eqb : (o e : Object) → 1 ≤ o .type → 1 ≤ e .type → sameUse o e ≡ eqb (useIndex e) (useIndex o)
+use-eqb o e l m = go (eqb (e .type) (o .type)) (eqb (bitC e) (bitC o)) refl refl
   where
     go : (s t : Bool) → eqb (e .type) (o .type) ≡ s → eqb (bitC e) (bitC o) ≡ t → s && t ≡ eqb (useIndex e) (useIndex o)
     go true true p q = let x = eqb-true (e .type) (o .type) p in let y = eqb-true (bitC e) (bitC o) q in sym (eq-eqb (useIndex e) (useIndex o) (omega arith))
     go true false p q = let y = eqb-false (bitC e) (bitC o) q in let x = eqb-true (e .type) (o .type) p in sym (ne-eqb (useIndex e) (useIndex o) (λ z. y (omega arith)))
     go false t p q = let x = eqb-false (e .type) (o .type) p in sym (ne-eqb (useIndex e) (useIndex o) (λ z. x (omega arith)))
 
--- a known type's use has one of the bits
-known-bit : (o : Object) → known (kind o) ≡ true → useIndex o < 16
-known-bit o k = let (a, b) = both (leb 1 (o .type)) (leb (o .type) 7) (sym (known-types (o .type)) ∙ k) in omega (arith, leb-true (o .type) 7 b)
+-- a type between two numbers
+within : (t n : ℕ) → leb 1 t && leb t n ≡ true → (1 ≤ t) × (t ≤ n)
+within t n e = let (a, b) = both (leb 1 t) (leb t n) e in (leb-true 1 t a, leb-true t n b)
 
--- ---- marks
+pub known-within : (t : ℕ) → known (kindOf t) ≡ true → (1 ≤ t) × (t ≤ 7)
+known-within t k = within t 7 (sym (known-types t) ∙ k)
 
-pub no-marks : Marks 0 []
+pub bits-apart : BitsApart
+bits-apart o e l m = let (a, b) = within (o .type) 8 l in let (c, d) = within (e .type) 8 m in (omega arith, use-eqb o e a c)
+
+-- ---- one object more
+
+-- what a known type's bit is behind it
+has-with : (n : ℕ) (o e : Object) → known (kind o) ≡ true → hasBit (withUse n e) (useIndex o) ≡ hasBit n (useIndex o) || sameUse o e
+has-with n o e k = go (known (kind e)) refl
+  where
+    go : (b : Bool) → known (kind e) ≡ b → hasBit (withUse n e) (useIndex o) ≡ hasBit n (useIndex o) || sameUse o e
+    go true h =
+        let (a, b) = known-within (o .type) k in
+        let (c, d) = known-within (e .type) h in
+        rw (h, use-eqb o e a c) (bit-with n (useIndex e) (useIndex o))
+    go false h = rw (h, ne-eqb (e .type) (o .type) (λ q. true≢false (sym (rw q k) ∙ h))) (sym (or-false (hasBit n (useIndex o))))
+
+pub seen-snoc : (n : ℕ) (es : List Object) (o : Object) → seenFrom n (es ++ (o ∷ [])) ≡ withUse (seenFrom n es) o
+unfolding seenFrom
+seen-snoc n [] o = refl
+seen-snoc n (e ∷ es) o = seen-snoc (withUse n e) es o
+
+-- ---- all objects before one
+
+seen-any : (n : ℕ) (es : List Object) (o : Object) → known (kind o) ≡ true → hasBit (seenFrom n es) (useIndex o) ≡ hasBit n (useIndex o) || anyOf (sameUse o) es
+unfolding seenFrom
+seen-any n [] o k = sym (or-false (hasBit n (useIndex o)))
+seen-any n (e ∷ es) o k = seen-any (withUse n e) es o k ∙ rw (has-with n o e k) (or-assoc (hasBit n (useIndex o)) (sameUse o e) (anyOf (sameUse o) es))
+
+-- no bit is 1 before the first object
+unseen : (k : ℕ) → hasBit 0 k ≡ false
 unfolding hasBit
-no-marks o k = rw (zero-div (2 ^ useIndex o))
+unseen k = rw (zero-div (2 ^ k))
+
+pub seen-exact : SeenExact
+unfolding objectBar barBy
+seen-exact es o = record { exact = exact; silent = λ u. seen-snoc 0 es o ∙ rw u; bar = bar (known (kind o)) refl }
+  where
+    exact : known (kind o) ≡ true → hasBit (seenAfter es) (useIndex o) ≡ anyOf (sameUse o) es
+    exact k = seen-any 0 es o k ∙ rw (unseen (useIndex o))
+
+    bar : (b : Bool) → known (kind o) ≡ b → objectBar (record { earlier = es; object = o }) ≡ barBy (hasUse (seenAfter es) o) o
+    bar true k = rw (k, exact k)
+    bar false k = rw k
+
+-- ---- as code has it
+
+-- an unknown type has no bit, and sets none
+pub no-use : (n : ℕ) (o : Object) → known (kind o) ≡ false → false ≡ hasUse n o
+no-use n o u = rw u
+
+pub keeps-uses : (n : ℕ) (o : Object) → known (kind o) ≡ false → n ≡ withUse n o
+keeps-uses n o u = rw u
 
 -- a bit that is read
-pub marks-has : (n : ℕ) (es : List Object) (o : Object) (k : ℕ) → Marks n es → known (kind o) ≡ true → k ≡ useIndex o → eqb (n / 2 ^ k % 2) 1 ≡ anyOf (sameUse o) es
+pub reads-use : (n k : ℕ) (o : Object) → known (kind o) ≡ true → k ≡ useIndex o → eqb (n / 2 ^ k % 2) 1 ≡ hasUse n o
 unfolding hasBit
-marks-has n es o k m h e = rw e (m o h)
-
-pub marks-behind : (o : Object) (k : ℕ) (b : Bool) → known (kind o) ≡ true → k ≡ useIndex o → 16 ≤ k → false ≡ b
-marks-behind o k b h e l = absurd (let z = known-bit o h in omega arith)
+reads-use n k o h e = rw (h, e)
 
 -- a bit that is set
-pub marks-with : (n : ℕ) (es : List Object) (a : Object) (k : ℕ) → Marks n es → k ≡ useIndex a → k < 16 → Marks (bitOr n ((1 * 2 ^ k) % 65536)) (es ++ (a ∷ []))
-marks-with n es a k m e l o h = rw (any-append (sameUse o) es (a ∷ []), or-false (sameUse o a), ← m o h, use-eqb o a, ← e) (bit-with 16 n k (useIndex o) l)
+pub sets-use : (n k : ℕ) (o : Object) → known (kind o) ≡ true → k < 16 → k ≡ useIndex o → bitOr n ((1 * 2 ^ k) % 65536) ≡ withUse n o
+sets-use n k o h l e = rw (h, ← e, shift-one 16 k l)
 
--- a use that has no bit
-pub marks-past : (n : ℕ) (es : List Object) (a : Object) (k : ℕ) → Marks n es → k ≡ useIndex a → 16 ≤ k → Marks n (es ++ (a ∷ []))
-marks-past n es a k m e l o h =
-    let z = known-bit o h in
-    rw (any-append (sameUse o) es (a ∷ []), ← m o h, use-eqb o a, ne-eqb (useIndex a) (useIndex o) (λ q. omega arith)) (sym (or-false (hasBit n (useIndex o))))
+-- ---- computed
 
--- an object of unknown type is of no known type's use
-pub marks-unknown : (n : ℕ) (es : List Object) (a : Object) → Marks n es → known (kind a) ≡ false → Marks n (es ++ (a ∷ []))
-marks-unknown n es a m u o h = rw (any-append (sameUse o) es (a ∷ []), ← m o h, other) (sym (or-false (hasBit n (useIndex o))))
-  where
-    other : sameUse o a ≡ false
-    other = rw (ne-eqb (a .type) (o .type) (λ q. true≢false (sym (rw q h) ∙ u)))
+pub seen-rows : SeenRows
+unfolding seenFrom kindOf
+seen-rows = refl

@@ -14,7 +14,7 @@ use Rattle.wire.specs.declared.objects.Cursor.{Cursor}
 use Rattle.wire.specs.declared.container.Gathered.{Gathered}
 use Rattle.wire.specs.declared.container.Reading.{Reading}
 use Rattle.wire.specs.declared.container.Reading.the-variants.{Refused}
-use Rattle.wire.specs.Seen.{Marks}
+use Rattle.wire.specs.Seen.{seenAfter}
 use Rattle.wire.specs.Mandatory.{showsMandatory}
 use Rattle.wire.specs.Reading.{hopsOf}
 
@@ -22,7 +22,7 @@ use Rattle.wire.specs.Reading.{hopsOf}
 pub record Gathers (g : Gathered) (es : List Object) : Type 0 where
   pub number : g .number ≡ firstOf objectBar (standings [] es)
   pub place : g .place ≡ indexOf objectBar (standings [] es)
-  pub seen : g .number ≡ 0 → Marks (g .seen) es
+  pub seen : g .number ≡ 0 → g .seen ≡ seenAfter es
   pub hops : g .number ≡ 0 → g .hops ≡ hopsOf (hopCount es)
   pub shown : g .number ≡ 0 → showsMandatory (g .flags) ≡ anyOf mandatory es
 

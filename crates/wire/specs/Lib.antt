@@ -6,5 +6,6 @@ pub mod Reading
 pub mod Put
 pub mod Tlv
 pub mod Seen
+pub mod SeenRows
 pub mod Mandatory
 pub mod Gathered

@@ -1,12 +1,11 @@
 // Bars 15 to 17 at an object.
 ghost use mathlib.Core.Path.{_≡_};
-ghost use mathlib.Core.Bool.{true, cond};
-ghost use mathlib.Core.List.{List};
-ghost use Rattle.model.specs.Number.{anyOf};
-ghost use Rattle.model.specs.Object.{Object, known, kindOf, roleOf};
+ghost use mathlib.Core.Bool.{cond};
+ghost use Rattle.model.specs.Object.{kindOf, roleOf};
 ghost use Rattle.model.specs.Table.{row};
-ghost use Rattle.model.specs.Reading.{cannotBe, shaped, sameUse, objectBar};
+ghost use Rattle.model.specs.Reading.{cannotBe, shaped};
 ghost use Rattle.wire.specs.Step.{objectOf};
+ghost use Rattle.wire.specs.Seen.{barBy};
 use crate::bodies;
 use crate::objects;
 use crate::objects::Header;
@@ -49,8 +48,7 @@ fn repeat_or(seen: bool, number: u8) -> u8
 
 // The lowest of 15, 16 and 17 at an object whose use was seen before it or not; 0 for none.
 pub(crate) fn object_bar(header: Header, body: &[u8], seen: bool) -> u8
-    ensures { λ r. ⌜ ((es : List Object) → (known (kindOf (header .mctype)) ≡ true → seen ≡ anyOf (sameUse (objectOf header (now (body .entry)))) es)
-        → r ≡ objectBar (record { earlier = es; object = objectOf header (now (body .entry)) })) ⌝ }
+    ensures { λ r. ⌜ r ≡ barBy seen (objectOf header (now (body .entry))) ⌝ }
 {
     if !table::is_known(header.mctype) {
         return 0;

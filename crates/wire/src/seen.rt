@@ -1,40 +1,40 @@
-// The uses of known types that were seen, a bit each: bit 2t for a metric of type t, bit 2t + 1 for a constraint.
+// The uses of known types that were seen, a bit each: types 1 to 8 have bits 0 to 15, a metric's before a constraint's.
 ghost use mathlib.Core.Path.{_≡_};
-ghost use Prim.Native.Nat.{ℕ};
+ghost use Prim.Native.Nat.{_<_};
 ghost use mathlib.Core.Bool.{true};
-ghost use mathlib.Core.List.{List, [], _∷_, _++_};
-ghost use Rattle.model.specs.Number.{anyOf};
-ghost use Rattle.model.specs.Object.{Object, known, kindOf};
-ghost use Rattle.model.specs.Reading.{sameUse};
+ghost use mathlib.Core.List.{[]};
+ghost use Rattle.model.specs.Object.{known, kindOf};
 ghost use Rattle.wire.specs.Step.{objectOf};
-ghost use Rattle.wire.specs.Seen.{useIndex, Marks};
+ghost use Rattle.wire.specs.Seen.{useIndex, hasUse, withUse};
 use crate::objects::Header;
+use crate::table;
 
-// The index of the bit for an object's use.
+// The index of the bit for the use of an object of known type. Type 0 would share those of type 1.
 fn use_index(header: Header) -> usize
-    ensures { λ r. ⌜ r ≡ useIndex (objectOf header []) ⌝ }
+    requires { ⌜ known (kindOf (header .mctype)) ≡ true ⌝ }
+    ensures { λ r. ⌜ (r < 16) × (r ≡ useIndex (objectOf header [])) ⌝ }
 {
-    (header.mctype as usize) * 2 + (header.flags / 2 % 2) as usize
+    (header.mctype - 1) as usize * 2 + (header.flags / 2 % 2) as usize
 }
 
-// Whether the use of an object of known type was seen.
+// Whether the use of an object was seen; that of an unknown type never was.
 pub(crate) fn has(seen: u16, header: Header) -> bool
-    ensures { λ r. ⌜ ((es : List Object) → Marks seen es → known (kindOf (header .mctype)) ≡ true → r ≡ anyOf (sameUse (objectOf header [])) es) ⌝ }
+    ensures { λ r. ⌜ r ≡ hasUse seen (objectOf header []) ⌝ }
 {
-    let k = use_index(header);
-    if k < 16 {
-        return (seen >> k) % 2 == 1;
+    if table::is_known(header.mctype) {
+        let k = use_index(header);
+        return (seen as u32 >> k) % 2 == 1;
     }
     false
 }
 
-// The uses seen, with that of one object more; types behind the table have no bit.
+// The uses seen, with that of one object more; an unknown type leaves them as they are.
 pub(crate) fn with(seen: u16, header: Header) -> u16
-    ensures { λ r. ⌜ ((es : List Object) (b : List ℕ) → Marks seen es → Marks r (es ++ (objectOf header b ∷ []))) ⌝ }
+    ensures { λ r. ⌜ r ≡ withUse seen (objectOf header []) ⌝ }
 {
-    let k = use_index(header);
-    if k < 16 {
-        return seen | (1 << k);
+    if !table::is_known(header.mctype) {
+        return seen;
     }
-    seen
+    let k = use_index(header);
+    seen | (1 << k)
 }

@@ -2,7 +2,7 @@ use mathlib.Core.Path.{sym, _∙_}
 use borrow.Author.Needs.{needs}
 use borrow.Author.Tests.{not-true, not-false}
 use Rattle.wire.specs.Step.{objectOf}
-use Rattle.wire.proofs.GatherLaws.{gathers-unknown, gathers-bar, gathers-more, bar-fresh}
+use Rattle.wire.proofs.GatherLaws.{gathers-unknown, gathers-bar, gathers-more, bar-fresh, bar-seen}
 use Rattle.wire.proofs.container.gather.Statement.{statement}
 use Rattle.wire.proofs.container.gather.Tie as tie
 
@@ -30,8 +30,9 @@ object-bar-requires c κs = search needs
 returns-2 : tie.Need-returns-2
 returns-2 c = λ es w.
     let start = c .before .before .before .before .before .before .before in
-    gathers-bar _ es (objectOf (start .args .header) (start .args .body .now)) w _ _ (start .pre .1)
-    (c .before .object-bar .ensures es (λ k. c .before .before .has .ensures es (w .seen (start .pre .1)) k)) (c .if2 .taken)
+    let o = objectOf (start .args .header) (start .args .body .now) in
+    let z = start .pre .1 in
+    gathers-bar _ es o w _ _ z (bar-seen _ es o w _ _ z (c .before .before .has .ensures) (c .before .object-bar .ensures)) (c .if2 .taken)
 
 add-t9 : tie.Need-add-t9
 add-t9 c = search needs
@@ -50,8 +51,8 @@ returns-3 c = λ es w.
     let o = objectOf (start .args .header) (start .args .body .now) in
     let z = start .pre .1 in
     let known = sym (tested .before .is-known .ensures) ∙ not-false _ (tested .if1 .left) in
-    let bar = sym (c .before .before .before .if2 .left) ∙ barred .object-bar .ensures es (λ k. barred .before .has .ensures es (w .seen z) k) in
-    gathers-more _ es o w _ _ _ (tested .before .before .shown-with .ensures) z bar (c .before .with .ensures es (start .args .body .now) (w .seen z)) (c .hops-with .ensures es (w .hops z) (bar-fresh es o known (sym bar)))
+    let bar = sym (c .before .before .before .if2 .left) ∙ bar-seen _ es o w _ _ z (barred .before .has .ensures) (barred .object-bar .ensures) in
+    gathers-more _ es o w _ _ _ (tested .before .before .shown-with .ensures) z bar (c .before .with .ensures) (c .hops-with .ensures es (w .hops z) (bar-fresh es o known (sym bar)))
 
 pub gather-spec : {M : Type 1} → statement M
 gather-spec =
