@@ -18,11 +18,13 @@ module _ (seen : Bool) (o : Object) where
   bar-misused k m = rw (k, m)
 
   -- a known type whose body is not as tabled
-  pub bar-malformed : known (kind o) ≡ true → cannotBe (role o) (row (kind o)) ≡ false → shaped (role o) (row (kind o)) (o .body) ≡ false → 15 ≡ barBy seen o
+  pub bar-malformed : known (kind o) ≡ true → cannotBe (role o) (row (kind o)) ≡ false → shaped (role o) (row (kind o)) (o .body) ≡ false
+      → 15 ≡ barBy seen o
   unfolding barBy
   bar-malformed k m b = rw (k, m, b)
 
   -- a known type, seen with this C or not, with nothing else against it
-  pub bar-shaped : known (kind o) ≡ true → cannotBe (role o) (row (kind o)) ≡ false → shaped (role o) (row (kind o)) (o .body) ≡ true → cond seen 16 0 ≡ barBy seen o
+  pub bar-shaped : known (kind o) ≡ true → cannotBe (role o) (row (kind o)) ≡ false → shaped (role o) (row (kind o)) (o .body) ≡ true
+      → cond seen 16 0 ≡ barBy seen o
   unfolding barBy
   bar-shaped k m b = rw (k, m, b)

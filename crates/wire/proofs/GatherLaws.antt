@@ -67,7 +67,8 @@ module _ (g : Gathered) (es : List Object) (o : Object) (w : Gathers g es) where
       go (suc a) h = refl
 
   -- the bar that the bit gives
-  pub bar-seen : (n : ℕ) (seen : Bool) → g .number ≡ 0 → seen ≡ hasUse (g .seen) o → n ≡ barBy seen o → n ≡ objectBar (record { earlier = es; object = o })
+  pub bar-seen : (n : ℕ) (seen : Bool) → g .number ≡ 0 → seen ≡ hasUse (g .seen) o → n ≡ barBy seen o
+      → n ≡ objectBar (record { earlier = es; object = o })
   bar-seen n seen z s e = e ∙ ap (λ b. barBy b o) (s ∙ ap (λ x. hasUse x o) (w .seen z)) ∙ sym (seen-exact es o .bar)
 
   -- the first bar
@@ -78,7 +79,8 @@ module _ (g : Gathered) (es : List Object) (o : Object) (w : Gathers g es) where
       record { number = q; place = w .place ∙ sym (place-snoc es o (λ x. h (q ∙ x))); seen = λ x. absurd (h x); hops = λ x. absurd (h x); shown = λ x. absurd (h x) }
 
   -- no bar
-  pub gathers-more : (s q f : ℕ) → showsMandatory f ≡ showsMandatory (g .flags) || mandatory o → g .number ≡ 0 → 0 ≡ objectBar (record { earlier = es; object = o }) → s ≡ withUse (g .seen) o → q ≡ hopsOf (hopCount (es ++ (o ∷ [])))
+  pub gathers-more : (s q f : ℕ) → showsMandatory f ≡ showsMandatory (g .flags) || mandatory o → g .number ≡ 0
+      → 0 ≡ objectBar (record { earlier = es; object = o }) → s ≡ withUse (g .seen) o → q ≡ hopsOf (hopCount (es ++ (o ∷ [])))
       → Gathers (record { number = 0; place = g .place + 1; seen = s; hops = q; flags = f }) (es ++ (o ∷ []))
   gathers-more s q f a z e m p =
       let n : barAmong (es ++ (o ∷ [])) ≡ 0 = bar-snoc es o ∙ rw (← w .number, z) (sym e) in

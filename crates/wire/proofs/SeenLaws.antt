@@ -1,6 +1,6 @@
 -- The bits of the uses seen, and the objects that they stand for.
-use mathlib.Core.Path.{_≡_, refl, sym, ap, _∙_}
-use Prim.Native.Nat.{ℕ, _+_, _-_, _*_, _/_, _%_, _^_, _≤_, _<_}
+use mathlib.Core.Path.{_≡_, refl, sym, _∙_}
+use Prim.Native.Nat.{ℕ, _*_, _/_, _%_, _^_, _≤_, _<_}
 use native.Mathlib.Nat.{zero-div}
 use native.Mathlib.Omega.{arith}
 use mathlib.Core.Bool.{Bool, true, false, _&&_, _||_, or-false, or-assoc, true≢false}
@@ -10,11 +10,12 @@ use lib.Bits.{bitOr}
 use borrow.Author.Tests.{eq-eqb, ne-eqb, eqb-true, eqb-false, leb-true}
 use Rattle.model.specs.Number.{anyOf}
 use Rattle.model.specs.Object.{Object, bitC, kind, kindOf, known}
-use Rattle.model.specs.Reading.{sameUse, objectBar}
+use Rattle.model.specs.Reading.{sameUse, repeated, objectBar}
 use Rattle.model.proofs.BoolLaws.{both}
+use Rattle.model.proofs.ListLaws.{any-same}
 use Rattle.model.proofs.TypeLaws.{known-types}
 use Rattle.wire.specs.Row.{hasBit}
-use Rattle.wire.specs.Seen.{useIndex, hasUse, withUse, seenFrom, seenAfter, barBy, hasRoom, SeenExact, BitsApart}
+use Rattle.wire.specs.Seen.{useIndex, hasUse, withUse, seenFrom, seenAfter, barBy, setsBit, BitsExact, SeenExact, BitsApart}
 use Rattle.wire.specs.SeenRows.{SeenRows}
 use Rattle.wire.proofs.BitLaws.{shift-one, bit-with}
 
@@ -37,20 +38,24 @@ pub known-within : (t : ℕ) → known (kindOf t) ≡ true → (1 ≤ t) × (t �
 known-within t k = within t 7 (sym (known-types t) ∙ k)
 
 pub bits-apart : BitsApart
-bits-apart o e l m = let (a, b) = within (o .type) 8 l in let (c, d) = within (e .type) 8 m in (omega arith, use-eqb o e a c)
+bits-apart o l = let (a, b) = within (o .type) 8 l in (omega arith, λ e m. use-eqb o e a (within (e .type) 8 m .0))
+
+-- beside a known type's, an object of its use has its bit, and no other object
+sets-use-bit : (o e : Object) → known (kind o) ≡ true → setsBit (useIndex o) e ≡ sameUse o e
+sets-use-bit o e k = go (known (kind e)) refl
+  where
+    go : (b : Bool) → known (kind e) ≡ b → setsBit (useIndex o) e ≡ sameUse o e
+    go true h = rw h (sym (use-eqb o e (known-within (o .type) k .0) (known-within (e .type) h .0)))
+    go false h = rw (h, ne-eqb (e .type) (o .type) (λ q. true≢false (sym (rw q k) ∙ h)))
 
 -- ---- one object more
 
--- what a known type's bit is behind it
-has-with : (n : ℕ) (o e : Object) → known (kind o) ≡ true → hasBit (withUse n e) (useIndex o) ≡ hasBit n (useIndex o) || sameUse o e
-has-with n o e k = go (known (kind e)) refl
+bit-behind : (n : ℕ) (o : Object) (k : ℕ) → hasBit (withUse n o) k ≡ hasBit n k || setsBit k o
+bit-behind n o k = go (known (kind o)) refl
   where
-    go : (b : Bool) → known (kind e) ≡ b → hasBit (withUse n e) (useIndex o) ≡ hasBit n (useIndex o) || sameUse o e
-    go true h =
-        let (a, b) = known-within (o .type) k in
-        let (c, d) = known-within (e .type) h in
-        rw (h, use-eqb o e a c) (bit-with n (useIndex e) (useIndex o))
-    go false h = rw (h, ne-eqb (e .type) (o .type) (λ q. true≢false (sym (rw q k) ∙ h))) (sym (or-false (hasBit n (useIndex o))))
+    go : (b : Bool) → known (kind o) ≡ b → hasBit (withUse n o) k ≡ hasBit n k || setsBit k o
+    go true h = rw h (bit-with n (useIndex o) k)
+    go false h = rw h (sym (or-false (hasBit n k)))
 
 pub seen-snoc : (n : ℕ) (es : List Object) (o : Object) → seenFrom n (es ++ (o ∷ [])) ≡ withUse (seenFrom n es) o
 unfolding seenFrom
@@ -59,22 +64,29 @@ seen-snoc n (e ∷ es) o = seen-snoc (withUse n e) es o
 
 -- ---- all objects before one
 
-seen-any : (n : ℕ) (es : List Object) (o : Object) → known (kind o) ≡ true → hasBit (seenFrom n es) (useIndex o) ≡ hasBit n (useIndex o) || anyOf (sameUse o) es
+bits-from : (n : ℕ) (es : List Object) (k : ℕ) → hasBit (seenFrom n es) k ≡ hasBit n k || anyOf (setsBit k) es
 unfolding seenFrom
-seen-any n [] o k = sym (or-false (hasBit n (useIndex o)))
-seen-any n (e ∷ es) o k = seen-any (withUse n e) es o k ∙ rw (has-with n o e k) (or-assoc (hasBit n (useIndex o)) (sameUse o e) (anyOf (sameUse o) es))
+bits-from n [] k = sym (or-false (hasBit n k))
+bits-from n (e ∷ es) k = bits-from (withUse n e) es k ∙ rw (bit-behind n e k) (or-assoc (hasBit n k) (setsBit k e) (anyOf (setsBit k) es))
 
 -- no bit is 1 before the first object
 unseen : (k : ℕ) → hasBit 0 k ≡ false
 unfolding hasBit
 unseen k = rw (zero-div (2 ^ k))
 
+pub bits-exact : BitsExact
+bits-exact es k = bits-from 0 es k ∙ rw (unseen k)
+
 pub seen-exact : SeenExact
 unfolding objectBar barBy
-seen-exact es o = record { exact = exact; silent = λ u. seen-snoc 0 es o ∙ rw u; bar = bar (known (kind o)) refl }
+seen-exact es o = record { exact = exact; repeat = repeat (known (kind o)) refl; bar = bar (known (kind o)) refl }
   where
     exact : known (kind o) ≡ true → hasBit (seenAfter es) (useIndex o) ≡ anyOf (sameUse o) es
-    exact k = seen-any 0 es o k ∙ rw (unseen (useIndex o))
+    exact k = bits-exact es (useIndex o) ∙ any-same (setsBit (useIndex o)) (sameUse o) (λ e. sets-use-bit o e k) es
+
+    repeat : (b : Bool) → known (kind o) ≡ b → repeated (record { earlier = es; object = o }) ≡ hasUse (seenAfter es) o
+    repeat true k = rw (k, exact k)
+    repeat false k = rw k
 
     bar : (b : Bool) → known (kind o) ≡ b → objectBar (record { earlier = es; object = o }) ≡ barBy (hasUse (seenAfter es) o) o
     bar true k = rw (k, exact k)

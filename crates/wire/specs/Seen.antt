@@ -1,13 +1,13 @@
 -- The duplicate test: which uses of known types were seen, as the bits of a number. Bar 16 reads it and no earlier object.
 use mathlib.Core.Path.{_≡_}
 use Prim.Native.Nat.{ℕ, _+_, _-_, _*_, _^_, _<_}
-use mathlib.Core.Bool.{Bool, true, false, cond, _&&_}
-use mathlib.Core.List.{List, [], _∷_, _++_}
+use mathlib.Core.Bool.{Bool, true, cond, _&&_}
+use mathlib.Core.List.{List, [], _∷_}
 use lib.Dec.{leb, eqb}
 use lib.Bits.{bitOr}
 use Rattle.model.specs.Number.{anyOf, _when_, firstCase}
 use Rattle.model.specs.Object.{Object, bitC, Standing, kind, known}
-use Rattle.model.specs.Reading.{malformed, misused, sameUse, objectBar}
+use Rattle.model.specs.Reading.{malformed, misused, sameUse, repeated, objectBar}
 use Rattle.wire.specs.Row.{hasBit}
 
 -- the index of the bit for a use: two bits for each type from 1 on, by C
@@ -39,10 +39,21 @@ alone o = record { earlier = []; object = o }
 unfoldable pub barBy : (seen : Bool) → Object → ℕ
 barBy s o = firstCase (15 when malformed (alone o) ∷ 16 when (known (kind o) && s) ∷ 17 when misused (alone o) ∷ [])
 
--- at an object behind others: its bit is 1 exactly where an object of its type and C stands among them; an unknown type sets none; bar 16 reads the bit
+-- an object that has bit k: one of known type, whose use has that index
+abbrev pub setsBit : (k : ℕ) → Object → Bool
+setsBit k o = known (kind o) && eqb (useIndex o) k
+
+-- each bit is 1 exactly where an object that has it stands before; so unknown types set none
+abbrev pub BitsExact : Type 0
+BitsExact = (es : List Object) (k : ℕ) → hasBit (seenAfter es) k ≡ anyOf (setsBit k) es
+
+-- an object behind others, and the bits that they left
 pub record SeenAt (es : List Object) (o : Object) : Type 0 where
+  -- a known type's bit is 1 exactly where an object of its type and C stands before
   pub exact : known (kind o) ≡ true → hasBit (seenAfter es) (useIndex o) ≡ anyOf (sameUse o) es
-  pub silent : known (kind o) ≡ false → seenAfter (es ++ (o ∷ [])) ≡ seenAfter es
+  -- bar 16 holds exactly where the bit is 1
+  pub repeat : repeated (record { earlier = es; object = o }) ≡ hasUse (seenAfter es) o
+  -- the lowest of 15 to 17 reads that bit and no earlier object
   pub bar : objectBar (record { earlier = es; object = o }) ≡ barBy (hasUse (seenAfter es) o) o
 
 -- at every object
@@ -55,4 +66,5 @@ hasRoom o = leb 1 (o .type) && leb (o .type) 8
 
 -- the uses of types 1 to 8 have sixteen bits, and no two of them one
 abbrev pub BitsApart : Type 0
-BitsApart = (o e : Object) → hasRoom o ≡ true → hasRoom e ≡ true → (useIndex o < 16) × (sameUse o e ≡ eqb (useIndex e) (useIndex o))
+BitsApart = (o : Object) → hasRoom o ≡ true
+    → (useIndex o < 16) × ((e : Object) → hasRoom e ≡ true → sameUse o e ≡ eqb (useIndex e) (useIndex o))

@@ -1,4 +1,4 @@
--- Bar 16 among many objects: the verdict and its place. Constraints are optional here, so that bar 19 is never theirs.
+-- Bar 16 among many objects: the verdict and its place. Constraints are optional, or repeats, so that bar 19 is never theirs.
 use Prim.Native.Nat.{ℕ}
 use mathlib.Core.List.{List, [], _∷_, _++_}
 use Rattle.model.specs.Samples.{Example, _gives_, verdictOf}
@@ -7,11 +7,19 @@ use Rattle.model.specs.Boundaries.Places.{placeGiven}
 
 -- a metric of each known type
 abbrev pub metrics : List ℕ
-metrics = zeros 1 0x00 0x10 2 ++ zeros 2 0x00 0x80 2 ++ zeros 3 0x00 0x00 2 ++ zeros 4 0x00 0x80 4 ++ zeros 5 0x00 0x80 4 ++ zeros 6 0x00 0x80 2 ++ zeros 7 0x00 0x80 2
+metrics =
+    zeros 1 0x00 0x10 2 ++ zeros 2 0x00 0x80 2 ++ zeros 3 0x00 0x00 2 ++ zeros 4 0x00 0x80 4 ++ zeros 5 0x00 0x80 4
+    ++ zeros 6 0x00 0x80 2 ++ zeros 7 0x00 0x80 2
 
 -- a constraint of each known type
 abbrev pub limits : List ℕ
-limits = zeros 1 0x03 0x00 2 ++ zeros 2 0x03 0x00 2 ++ zeros 3 0x03 0x00 2 ++ zeros 4 0x03 0x00 4 ++ zeros 5 0x03 0x00 4 ++ zeros 6 0x03 0x00 2 ++ zeros 7 0x03 0x00 2
+limits =
+    zeros 1 0x03 0x00 2 ++ zeros 2 0x03 0x00 2 ++ zeros 3 0x03 0x00 2 ++ zeros 4 0x03 0x00 4 ++ zeros 5 0x03 0x00 4
+    ++ zeros 6 0x03 0x00 2 ++ zeros 7 0x03 0x00 2
+
+-- type 8 in both uses
+abbrev pub bothOfEight : List ℕ
+bothOfEight = zeros 8 0x00 0x80 2 ++ zeros 8 0x03 0x00 2
 
 -- the verdict on these bytes of data, with its place
 abbrev pub barGiven : (data′ : List ℕ) → List ℕ
@@ -43,8 +51,8 @@ repeats =
     ∷ (limits ++ metrics ++ zeros 3 0x06 0x00 2) gives repeatAt 14
     ∷ (limits ++ metrics ++ zeros 4 0x07 0x00 4) gives repeatAt 14
     ∷ (limits ++ metrics ++ zeros 5 0x03 0x70 4) gives repeatAt 14
-    ∷ (limits ++ metrics ++ zeros 6 0xFF 0xFF 2) gives repeatAt 14
-    ∷ (limits ++ metrics ++ zeros 7 0x03 0x00 2) gives repeatAt 14
+    ∷ (limits ++ metrics ++ zeros 6 0x03 0x00 2) gives repeatAt 14
+    ∷ (limits ++ metrics ++ zeros 7 0xFF 0xFF 2) gives repeatAt 14
     -- the first of two repeats, the ninth object
     ∷ (metrics ++ zeros 4 0x03 0x00 4 ++ zeros 7 0x00 0x80 2 ++ zeros 4 0x03 0x00 4) gives repeatAt 8
     -- an object of unknown type between the two, or several
@@ -52,10 +60,8 @@ repeats =
     ∷ (zeros 7 0x03 0x00 2 ++ zeros 8 0x03 0x00 2 ++ zeros 7 0x03 0x00 2) gives repeatAt 2
     ∷ (zeros 2 0x00 0x80 2 ++ zeros 200 0x00 0x80 0 ++ zeros 9 0x03 0x00 1 ++ zeros 255 0x00 0x00 2 ++ zeros 2 0x00 0x80 2) gives repeatAt 4
     -- types 0 and 8 repeat nothing, themselves neither
-    ∷ (zeros 0 0x00 0x80 2 ++ zeros 1 0x00 0x10 2) gives fresh
-    ∷ (zeros 1 0x00 0x10 2 ++ zeros 0 0x00 0x80 2) gives fresh
-    ∷ (zeros 0 0x03 0x00 2 ++ zeros 1 0x03 0x00 2) gives fresh
-    ∷ (zeros 1 0x03 0x00 2 ++ zeros 0 0x03 0x00 2) gives fresh
-    ∷ (zeros 8 0x00 0x80 2 ++ zeros 8 0x00 0x80 2 ++ zeros 8 0x03 0x00 2 ++ zeros 8 0x03 0x00 2 ++ metrics ++ limits) gives fresh
-    ∷ (metrics ++ limits ++ zeros 8 0x00 0x80 2 ++ zeros 8 0x03 0x00 2 ++ zeros 0 0x00 0x80 2 ++ zeros 0 0x03 0x00 2) gives fresh
+    ∷ (zeros 0 0x00 0x80 2 ++ zeros 1 0x00 0x10 2 ++ zeros 0 0x00 0x80 2) gives fresh
+    ∷ (zeros 0 0x03 0x00 2 ++ zeros 1 0x03 0x00 2 ++ zeros 0 0x03 0x00 2) gives fresh
+    ∷ (bothOfEight ++ bothOfEight ++ metrics ++ limits ++ bothOfEight) gives fresh
+    ∷ (metrics ++ limits ++ zeros 0 0x00 0x80 2 ++ zeros 0 0x03 0x00 2) gives fresh
     ∷ []
