@@ -40,7 +40,7 @@ known-within t k = within t 7 (sym (known-types t) ∙ k)
 pub bits-apart : BitsApart
 bits-apart o l = let (a, b) = within (o .type) 8 l in (omega arith, λ e m. use-eqb o e a (within (e .type) 8 m .0))
 
--- beside a known type's, an object of its use has its bit, and no other object
+-- the objects that have a known type's bit are those of its use
 sets-use-bit : (o e : Object) → known (kind o) ≡ true → setsBit (useIndex o) e ≡ sameUse o e
 sets-use-bit o e k = go (known (kind e)) refl
   where

@@ -64,7 +64,7 @@ SeenExact = (es : List Object) (o : Object) → SeenAt es o
 abbrev pub hasRoom : Object → Bool
 hasRoom o = leb 1 (o .type) && leb (o .type) 8
 
--- the uses of types 1 to 8 have sixteen bits, and no two of them one
+-- the uses of types 1 to 8 have sixteen bits, and no two of them share one
 abbrev pub BitsApart : Type 0
 BitsApart = (o : Object) → hasRoom o ≡ true
     → (useIndex o < 16) × ((e : Object) → hasRoom e ≡ true → sameUse o e ≡ eqb (useIndex e) (useIndex o))
