@@ -12,7 +12,7 @@ use lib.ListN.{getD}
 use Rattle.model.specs.Object.{Kind, unknown, lql, node, scalar, known, isHp}
 use Rattle.model.specs.Constraint.{linkValue}
 use Rattle.model.specs.Table.{allowed}
-use Rattle.model.specs.Update.{localValue, clear0, clear1, combine1, noEnergy}
+use Rattle.model.specs.Update.{localValue, clear0, clear1, combine1, noEnergy, isBeyond}
 
 -- the link's value of a metric that is one number; of others there is none
 abbrev pub linkOf : Neighbour → Kind → Quantity
@@ -50,7 +50,11 @@ countsIn v x = eqb (x / 32) v && ltb (x % 32) 31
 abbrev pub fullIn : Kind → List ℕ → Bool
 fullIn k b = isHp k && eqb (getD b 1 0) 255
 
--- 31 to 34 at an aggregated metric
+-- 36 for a sum (A=0) that is beyond its field
+abbrev pub overIn : Neighbour → Kind → (a : ℕ) → List ℕ → ℕ
+overIn c k a b = cond (eqb a 0 && isBeyond c k b) 36 0
+
+-- 31 to 34 and 36 at an aggregated metric
 abbrev pub aggregatedLeaf : Own → Neighbour → Kind → (a : ℕ) → List ℕ → ℕ
 aggregatedLeaf own c k a b =
-    cond (not (known k)) 31 (cond (not (allowed k a)) 32 (cond (isUnknown (localValue own c k) || noEnergy k b) 33 (cond (fullIn k b) 34 0)))
+    cond (not (known k)) 31 (cond (not (allowed k a)) 32 (cond (isUnknown (localValue own c k) || noEnergy k b) 33 (cond (fullIn k b) 34 (overIn c k a b))))

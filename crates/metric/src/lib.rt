@@ -1,4 +1,4 @@
-// What this hop makes of one metric or constraint: leaf answers 31 to 34, header bytes, values, and the bytes of bodies that change.
+// What this hop makes of one metric or constraint: leaf answers 31 to 34 and 36, header bytes, values, and the bytes of changed bodies.
 mod headers;
 mod leaves;
 mod levels;

@@ -1,11 +1,11 @@
 // The values that this hop puts into metrics: a node metric takes own values, a link metric the link's.
 ghost use mathlib.Core.Path.{_≡_};
-ghost use Prim.Native.Nat.{_+_, min};
 ghost use Rattle.model.specs.Number.{knownIf, isUnknown};
 ghost use Rattle.model.specs.Object.{kindOf};
 ghost use Rattle.model.specs.Update.{localValue, valueOr0};
 ghost use Rattle.model.specs.Update as update;
 ghost use Rattle.metric.specs.Next.{linkOf};
+ghost use Rattle.metric.specs.Sums.{sumIn, isOver, stoppedAt};
 use model::Neighbour;
 use model::Own;
 use model::Quantity;
@@ -75,17 +75,43 @@ pub fn local_or_0(own: Own, neighbour: Neighbour, mctype: u8) -> u32
     }
 }
 
-// A sum that stops at the field's maximum.
-fn sum(most: u32, x: u32, v: u32) -> u32
-    ensures { λ r. ⌜ r ≡ min most (x + v) ⌝ }
+// A sum that fits its field, or is over the field's maximum.
+pub enum Sum {
+    Fits(u32),
+    Over,
+}
+
+// A sum in a field, by the field's maximum: it says whether it fits.
+pub(crate) fn add(most: u32, x: u32, v: u32) -> Sum
+    ensures { λ r. ⌜ r ≡ sumIn most x v ⌝ }
 {
-    if most <= x {
-        return most;
+    if most < x {
+        return Sum::Over;
     }
     if most - x < v {
-        return most;
+        return Sum::Over;
     }
-    x + v
+    Sum::Fits(x + v)
+}
+
+// Whether a sum is over its field's maximum.
+pub(crate) fn is_over(sum: Sum) -> bool
+    ensures { λ r. ⌜ r ≡ isOver sum ⌝ }
+{
+    match sum {
+        Sum::Fits(_) => false,
+        Sum::Over => true,
+    }
+}
+
+// The sum, or the field's maximum where it is over that.
+fn stopped(most: u32, sum: Sum) -> u32
+    ensures { λ r. ⌜ r ≡ stoppedAt most sum ⌝ }
+{
+    match sum {
+        Sum::Fits(n) => n,
+        Sum::Over => most,
+    }
 }
 
 // The received value combined with the local one: A=0 adds, 1 takes the larger, 2 the smaller.
@@ -93,7 +119,7 @@ pub fn combine(a: u8, most: u32, x: u32, v: u32) -> u32
     ensures { λ r. ⌜ r ≡ update.combine a most x v ⌝ }
 {
     if a == 0 {
-        return sum(most, x, v);
+        return stopped(most, add(most, x, v));
     }
     if a == 1 {
         if x < v {

@@ -23,6 +23,7 @@ boundaries = record {
   rankBars = refl;
   byOperation = refl;
   byObject = refl;
+  bySum = refl;
   byLength = refl;
   leafAnswers = refl;
   aggregatedLinks = refl;

@@ -11,7 +11,7 @@ use Rattle.model.specs.declared.Own.{Own}
 use Rattle.model.specs.declared.Neighbour.{Neighbour}
 use Rattle.model.specs.Number.{anyOf, _when_, firstCase, first, firstOf, indexOf}
 use Rattle.model.specs.Object.{Object, join}
-use Rattle.model.specs.Update.{unknownAggregated, notAllowed, noValue, fullCount, leafCases, objectLeaf, tooLong, leafAnswer, update}
+use Rattle.model.specs.Update.{unknownAggregated, notAllowed, noValue, fullCount, overflows, leafCases, objectLeaf, tooLong, leafAnswer, update}
 use Rattle.model.specs.Conditions.{someHas}
 use Rattle.model.specs.Exact.{FirstToHold, leafTests, LeafAt, LeafExact}
 use Rattle.model.proofs.BoolLaws.{neither}
@@ -42,17 +42,22 @@ module _ (own : Own) (c : Neighbour) where
   unfolding objectLeaf
   leaf-34 o = exact (leafCases own c o) 3 refl
 
-  -- 31 to 34 are not 35
+  leaf-36 : (o : Object) → (objectLeaf own c o ≡ 36) ↔ FirstToHold (unknownAggregated o ∷ notAllowed o ∷ noValue own c o ∷ fullCount o ∷ []) (overflows c o)
+  unfolding objectLeaf
+  leaf-36 o = exact (leafCases own c o) 4 refl
+
+  -- 31 to 34 and 36 are not 35
   leaf-not-35 : (o : Object) → objectLeaf own c o ≡ 35 → ⊥
   unfolding objectLeaf
-  leaf-not-35 o e = go (unknownAggregated o) (notAllowed o) (noValue own c o) (fullCount o) e
+  leaf-not-35 o e = go (unknownAggregated o) (notAllowed o) (noValue own c o) (fullCount o) (overflows c o) e
     where
-      go : (x y z w : Bool) → firstCase (31 when x ∷ 32 when y ∷ 33 when z ∷ 34 when w ∷ []) ≡ 35 → ⊥
-      go true y z w e = omega arith
-      go false true z w e = omega arith
-      go false false true w e = omega arith
-      go false false false true e = omega arith
-      go false false false false e = omega arith
+      go : (x y z w u : Bool) → firstCase (31 when x ∷ 32 when y ∷ 33 when z ∷ 34 when w ∷ 36 when u ∷ []) ≡ 35 → ⊥
+      go true y z w u e = omega arith
+      go false true z w u e = omega arith
+      go false false true w u e = omega arith
+      go false false false true u e = omega arith
+      go false false false false true e = omega arith
+      go false false false false false e = omega arith
 
   -- the number at an object, or 35
   module _ (os : List Object) where
@@ -95,6 +100,7 @@ module _ (own : Own) (c : Neighbour) where
       leaf-32 = leaf-at 31 (unknownAggregated ∷ []) notAllowed (λ e. omega arith) leaf-32;
       leaf-33 = leaf-at 32 (unknownAggregated ∷ notAllowed ∷ []) (noValue own c) (λ e. omega arith) leaf-33;
       leaf-34 = leaf-at 33 (unknownAggregated ∷ notAllowed ∷ noValue own c ∷ []) fullCount (λ e. omega arith) leaf-34;
+      leaf-36 = leaf-at 35 (unknownAggregated ∷ notAllowed ∷ noValue own c ∷ fullCount ∷ []) (overflows c) (λ e. omega arith) leaf-36;
       leaf-35 = (
         λ e. let f = only-35 (firstOf (objectLeaf own c) os) (tooLong own c os) not-35 .0 e in (rw (← leaves-given, f .0), f .1),
         λ f. only-35 (firstOf (objectLeaf own c) os) (tooLong own c os) not-35 .1 (leaves-given ∙ neither (someHas (leafTests own c) os) false (f .0) .0, f .1),

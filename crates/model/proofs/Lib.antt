@@ -27,6 +27,7 @@ pub mod TlvLaws
 pub mod RoundTrip
 pub mod ShapeLaws
 pub mod ReadBack
+pub mod SumLaws
 pub mod CountLaws
 pub mod Local
 pub mod TypeLaws

@@ -7,6 +7,7 @@ use mathlib.Core.List.{List, [], _∷_, _++_, map}
 use mathlib.Core.Option.{some, Option·none-ne-some}
 use lib.ListN.{length, getD, getElem?, replicate, length-append, length-replicate}
 use Rattle.model.specs.Number.{anyOf}
+use Rattle.model.proofs.BoolLaws.{neither}
 
 pub at-below : {A : Type 0} (xs : List A) (i : ℕ) (x : A) → getElem? xs i ≡ some x → i < length xs
 at-below [] i x e = absurd (Option·none-ne-some x e)
@@ -28,6 +29,12 @@ pub map-at : {A B : Type 0} (f : A → B) (xs : List A) (i : ℕ) (y : B) → ge
 map-at f [] i y e = absurd (Option·none-ne-some y e)
 map-at f (x ∷ xs) zero y e = (x, refl, cc)
 map-at f (x ∷ xs) (suc i) y e = map-at f xs i y e
+
+-- where no element passes a test, the one at an index does not
+pub none-at : {A : Type 0} (p : A → Bool) (xs : List A) (i : ℕ) (x : A) → anyOf p xs ≡ false → getElem? xs i ≡ some x → p x ≡ false
+none-at p [] i x h e = absurd (Option·none-ne-some x e)
+none-at p (y ∷ xs) zero x h e = let q : y ≡ x = cc in rw (← q) (neither (p y) (anyOf p xs) h .0)
+none-at p (y ∷ xs) (suc i) x h e = none-at p xs i x (neither (p y) (anyOf p xs) h .1) e
 
 -- the element of a list with anything behind it
 pub getD-at : {A : Type 0} (xs behind : List A) (i : ℕ) (x d : A) → getElem? xs i ≡ some x → getD (xs ++ behind) i d ≡ x

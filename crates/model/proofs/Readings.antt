@@ -123,6 +123,10 @@ read-barred (suc r) i n p os g e = (cc, cc)
 
 -- ---- bars 13 to 17
 
+-- a reading gives one list of objects
+pub same-objects : (a b : List Object) → wellFormed a ≡ wellFormed b → a ≡ b
+same-objects a b e = cc
+
 module _ (bs : List ℕ) where
   abbrev os : List Object
   os = objectsIn bs
@@ -211,13 +215,10 @@ module _ (bs : List ℕ) where
     reading-16 = read-at 15 (malformed ∷ []) repeated refl object-16;
     reading-17 = read-at 16 (malformed ∷ repeated ∷ []) misused refl object-17;
     well-formed = λ ts. (
-      λ e. let f = none-of (by-case (wellFormed ts) 0 refl e) in (f, same os ts (sym (read-whole f) ∙ e)),
+      λ e. let f = none-of (by-case (wellFormed ts) 0 refl e) in (f, same-objects os ts (sym (read-whole f) ∙ e)),
       λ w. read-whole (w .0) ∙ ap wellFormed (w .1),
     );
   }
-    where
-      same : (a b : List Object) → wellFormed a ≡ wellFormed b → a ≡ b
-      same a b e = cc
 
 pub readings : ReadingsExact
 readings = reading-exact

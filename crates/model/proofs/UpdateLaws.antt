@@ -11,12 +11,12 @@ use Rattle.model.specs.declared.Neighbour.{Neighbour}
 use Rattle.model.specs.Number.{firstOf}
 use Rattle.model.specs.Object.{Object, fieldA, join, container, Kind, unknown, lql, node, scalar, Node, nsa, ne, hp, Scalar, throughput, latency, etx, known, kind, Role, constraint, recorded, aggregated, roleBits, roleOf, role}
 use Rattle.model.specs.Table.{row}
-use Rattle.model.specs.Update.{localValue, valueOr0, onTwo, clear0, clear1, combine1, aggregatedBody, constraintBody, addsNothing, nextBody, nextFlags, nextMode, updateObject, update, noEnergy, objectLeaf, tooLong, leafAnswer}
+use Rattle.model.specs.Update.{localValue, valueOr0, onTwo, clear0, clear1, combine1, aggregatedBody, constraintBody, addsNothing, nextBody, nextFlags, nextMode, updateObject, update, noEnergy, isBeyond, objectLeaf, tooLong, leafAnswer}
 use Rattle.model.specs.Cut.{mayHaveTlvs, cutBody, cutObject, keepIf, cut, cutContainer}
 use Rattle.model.proofs.NumberLaws.{first-zero}
 use Rattle.model.proofs.TypeLaws.{tlv-types}
 use Rattle.model.proofs.LeafLaws.{fits}
-use Rattle.model.proofs.CutLaws.{cutBody-byte0, cutBody-byte1}
+use Rattle.model.proofs.CutLaws.{cutBody-whole, cutBody-byte0, cutBody-byte1}
 use Rattle.model.proofs.ReadingLaws.{cutContainer-container}
 
 -- ---- the role stays
@@ -98,9 +98,15 @@ noEnergy-cut r (node ne) t b = rw cutBody-byte0
 noEnergy-cut r (node hp) t b = refl
 noEnergy-cut r (scalar s) t b = refl
 
+isBeyond-cut : (c : Neighbour) (r : Role) (k : Kind) (b : List ℕ) → isBeyond c k (cutBody r (row k .tlvs) b) ≡ isBeyond c k b
+isBeyond-cut c r unknown b = refl
+isBeyond-cut c r lql b = refl
+isBeyond-cut c r (node n) b = refl
+isBeyond-cut c r (scalar s) b = rw (scalar-tlvs s, cutBody-whole r b)
+
 objectLeaf-cut : (own : Own) (c : Neighbour) (o : Object) → objectLeaf own c (cutObject o) ≡ objectLeaf own c o
 unfolding objectLeaf
-objectLeaf-cut own c o = rw (noEnergy-cut, cutBody-byte1)
+objectLeaf-cut own c o = rw (← tlv-types (o .type), noEnergy-cut, cutBody-byte1, isBeyond-cut)
 
 leaves-cut : (own : Own) (c : Neighbour) (os : List Object) → firstOf (objectLeaf own c) os ≡ 0 → firstOf (objectLeaf own c) (cut os) ≡ 0
 unfolding firstOf cut

@@ -21,7 +21,7 @@ use Readings.{numbers, parts, frames, ends}
 use Shapes.{lengths, shapeVerdicts, tlvs, tlvVerdicts, uses}
 use Constraints.{unknowns, nodes, links, wishes}
 use Ranks.{ranks}
-use Leaves.{leaves, leafGiven, operations, leafByA, long, leafCalls}
+use Leaves.{leaves, leafGiven, operations, leafByA, sums, long, leafCalls}
 use Aggregates.{linkSums, nodeSums}
 use Records.{records, constraints, headers, orders}
 use Choices.{choices, containers}
@@ -53,9 +53,10 @@ pub record Boundaries : Type 0 where
   pub optional : Holds verdictOf wishes
   -- bars 20 and 21
   pub rankBars : Holds verdictOf ranks
-  -- leaf answers 31 to 35
+  -- leaf answers 31 to 36
   pub byOperation : Holds leafByA operations
   pub byObject : Holds leafGiven leaves
+  pub bySum : Holds leafGiven sums
   pub byLength : Holds leafGiven long
   pub leafAnswers : Holds outcomeOf leafCalls
   -- updating for this hop

@@ -1,12 +1,12 @@
 -- Demand 1: each number is given exactly when its condition holds and none before it in document 01's order does.
 use mathlib.Core.Path.{_≡_}
-use Prim.Native.Nat.{ℕ, _<_}
+use Prim.Native.Nat.{ℕ, _+_, _/_, _%_, _<_}
 use mathlib.Core.Bool.{Bool, true, false, _&&_, _||_}
 use mathlib.Core.List.{List, [], _∷_, _++_, map}
 use mathlib.Core.Logic.{_↔_}
 use mathlib.Core.Option.{some}
 use lib.ListN.{length, getD, getElem?, replicate}
-use lib.Dec.{leb, eqb}
+use lib.Dec.{leb, ltb, eqb}
 use Rattle.model.specs.declared.Rank.{Rank}
 use Rattle.model.specs.declared.Answer.{Answer}
 use Rattle.model.specs.declared.Own.{Own}
@@ -14,15 +14,15 @@ use Rattle.model.specs.declared.Neighbour.{Neighbour}
 use Rattle.model.specs.declared.Candidate.{Candidate}
 use Rattle.model.specs.declared.Verdict.{Verdict}
 use Rattle.model.specs.declared.Verdict.the-variants.{Unbarred, Barred}
-use Rattle.model.specs.Number.{anyOf}
-use Rattle.model.specs.Object.{Object, bitC, bitR, Standing, standings, kindOf, known}
+use Rattle.model.specs.Number.{isSet, anyOf, number}
+use Rattle.model.specs.Object.{Object, bitC, bitR, fieldA, Standing, standings, kindOf, known}
 use Rattle.model.specs.Table.{row}
 use Rattle.model.specs.Cut.{mayHaveTlvs}
 use Rattle.model.specs.Reading.{Reading, refused, wellFormed, reading, noPlace, misframed, runsPast, malformed, repeated, misused}
 use Rattle.model.specs.Constraint.{summary, unknownMandatory, unmet}
 use Rattle.model.specs.Rank.{infinite, resulting, rankTooHigh, aboveLowest}
 use Rattle.model.specs.Verdict.{outOfRange, containerOf, outside, verdict}
-use Rattle.model.specs.Update.{unknownAggregated, notAllowed, noValue, fullCount, tooLong}
+use Rattle.model.specs.Update.{unknownAggregated, notAllowed, noValue, fullCount, overflows, tooLong}
 use Rattle.model.specs.Choice.{badOwn, tooMany, currentPast, shortOutput, noParent, call}
 use Rattle.model.specs.Conditions.{someHas, objectsIn, objectBars, constraintBars, barsTo14, barsTo17, barsTo19, barsTo21}
 use Rattle.model.specs.Selection.{PreferredParent}
@@ -191,13 +191,21 @@ abbrev pub MisusedTypes : Type 0
 MisusedTypes = (es : List Object) (o : Object) → misused (record { earlier = es; object = o })
     ≡ eqb (bitC o) 0 && ((eqb (o .type) 1 || eqb (o .type) 3) && eqb (bitR o) 1 || eqb (o .type) 6 && eqb (bitR o) 0)
 
--- ---- leaf answers 31 to 35
+-- ---- leaf answers 31 to 36
 
--- the conditions at an object: 31 to 34
+-- 36 by numbers: an aggregated metric with A=0 and four bytes of body, of type 4 or 5, whose whole-number sum with the link's throughput
+-- or latency, where that is known, is above 4294967295
+abbrev pub OverflowTypes : Type 0
+OverflowTypes = (c : Neighbour) (o : Object) → overflows c o
+    ≡ eqb (bitC o) 0 && eqb (bitR o) 0 && eqb (fieldA o) 0 && eqb (length (o .body)) 4
+    && (eqb (o .type) 4 && isSet (c .flags / 32 % 2) && ltb 4294967295 (number (o .body) + c .throughput)
+    || eqb (o .type) 5 && isSet (c .flags / 16 % 2) && ltb 4294967295 (number (o .body) + c .latency))
+
+-- the conditions at an object: 31 to 34, then 36
 abbrev pub leafTests : Own → Neighbour → List (Object → Bool)
-leafTests own c = unknownAggregated ∷ notAllowed ∷ noValue own c ∷ fullCount ∷ []
+leafTests own c = unknownAggregated ∷ notAllowed ∷ noValue own c ∷ fullCount ∷ overflows c ∷ []
 
--- 31 to 34 at some object
+-- 31 to 34 or 36 at some object: the first that has one of them, and the lowest there
 abbrev pub LeafAt : Own → Neighbour → List Object → (lower : List (Object → Bool)) → (Object → Bool) → Type 0
 LeafAt own c os lower leaf = (place : ℕ) × FirstWith os (leafTests own c) lower leaf place
 
@@ -207,6 +215,7 @@ pub record LeafExact (own : Own) (c : Neighbour) (os : List Object) (given : ℕ
   pub leaf-32 : (given ≡ 32) ↔ LeafAt own c os (unknownAggregated ∷ []) notAllowed
   pub leaf-33 : (given ≡ 33) ↔ LeafAt own c os (unknownAggregated ∷ notAllowed ∷ []) (noValue own c)
   pub leaf-34 : (given ≡ 34) ↔ LeafAt own c os (unknownAggregated ∷ notAllowed ∷ noValue own c ∷ []) fullCount
+  pub leaf-36 : (given ≡ 36) ↔ LeafAt own c os (unknownAggregated ∷ notAllowed ∷ noValue own c ∷ fullCount ∷ []) (overflows c)
   pub leaf-35 : (given ≡ 35) ↔ FirstToHold (someHas (leafTests own c) os ∷ []) (tooLong own c os)
   pub no-leaf : (given ≡ 0) ↔ NoneOf (someHas (leafTests own c) os ∷ tooLong own c os ∷ [])
 

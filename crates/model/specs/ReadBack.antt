@@ -65,6 +65,18 @@ abbrev pub NoSumWraps : Type 0
 NoSumWraps = (own : Own) (c : Neighbour) (o : Object) (s : Scalar) (v : ℕ) → kind o ≡ scalar s → role o ≡ aggregated → linkValue c s ≡ Known v
     → length (o .body) ≡ widthOf s → Aggregates own c o s v
 
+-- a throughput (type 4) or latency (type 5) metric as received and as passed on: the whole-number sum with the link's value, which is known
+pub record SummedWhole (c : Neighbour) (received sent : Object) : Type 0 where
+  pub throughput : received .type ≡ 4 → (c .flags / 32 % 2 ≡ 1) × (number (sent .body) ≡ number (received .body) + c .throughput)
+  pub latency : received .type ≡ 5 → (c .flags / 16 % 2 ≡ 1) × (number (sent .body) ≡ number (received .body) + c .latency)
+
+-- of every one that is aggregated with A=0, by the container that a call passes on
+abbrev pub SumsWhole : Type 0
+SumsWhole = (own : Own) (cs : List Candidate) (lent out : List ℕ) → PassedOn (call own cs lent out) → (p : PreferredParent own cs lent (call own cs lent out .answer))
+    → (ns : List Object) → reading (passedOn (call own cs lent out)) ≡ wellFormed ns
+    → (i : ℕ) (o n : Object) → getElem? (p .objects) i ≡ some o → getElem? ns i ≡ some n → role o ≡ aggregated → fieldA o ≡ 0
+    → SummedWhole (p .candidate .neighbour) o n
+
 -- the count of an HP metric (type 3) rises by one, up to 255
 abbrev pub CountsHop : Type 0
 CountsHop = (own : Own) (c : Neighbour) (o : Object) → o .type ≡ 3 → role o ≡ aggregated → fieldA o ≡ 0 → 2 ≤ length (o .body)

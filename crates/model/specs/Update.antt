@@ -1,4 +1,4 @@
--- Leaf answers 31 to 35, and the objects updated for this hop.
+-- Leaf answers 31 to 36, and the objects updated for this hop.
 use Prim.Native.Nat.{ℕ, zero, suc, _+_, _-_, _*_, _/_, _%_, _^_, min, max}
 use mathlib.Core.Bool.{Bool, true, false, cond, not, _&&_, _||_}
 use mathlib.Core.List.{List, [], _∷_, _++_, map}
@@ -8,7 +8,7 @@ use Rattle.model.specs.declared.Quantity.{Quantity}
 use Rattle.model.specs.declared.Quantity.the-variants.{Known, Unknown}
 use Rattle.model.specs.declared.Own.{Own}
 use Rattle.model.specs.declared.Neighbour.{Neighbour}
-use Rattle.model.specs.Number.{isSet, isUnknown, number, bigEndian, Case, _when_, firstCase, first, firstOf}
+use Rattle.model.specs.Number.{isSet, satisfies, isUnknown, number, bigEndian, Case, _when_, firstCase, first, firstOf}
 use Rattle.model.specs.Object.{Object, object, fieldA, join, Kind, unknown, lql, node, scalar, Node, nsa, ne, hp, Scalar, throughput, latency, etx, known, kind, Role, constraint, recorded, aggregated, role, isAggregated, isConstraint, isHp}
 use Rattle.model.specs.Table.{row, allowed}
 use Rattle.model.specs.Constraint.{energyIn, linkValue}
@@ -190,11 +190,28 @@ noValue own c o = isAggregated (role o) && (isUnknown (localValue own c (kind o)
 abbrev pub fullCount : Object → Bool
 fullCount o = not (isConstraint (role o)) && isHp (kind o) && eqb (getD (o .body) 1 0) 255
 
--- 31 to 34 at an object
-abbrev pub leafCases : Own → Neighbour → Object → List Case
-leafCases own c o = 31 when unknownAggregated o ∷ 32 when notAllowed o ∷ 33 when noValue own c o ∷ 34 when fullCount o ∷ []
+-- whether a scalar's sum has to fit its field: ETX stops at its maximum (RFC 6551, section 4.3.2)
+abbrev pub mustFit : Scalar → Bool
+mustFit throughput = true
+mustFit latency = true
+mustFit etx = false
 
--- the lowest of 31 to 34 at an object
+-- whether the sum with the link's value is beyond the field
+abbrev pub isBeyond : Neighbour → Kind → List ℕ → Bool
+isBeyond c unknown b = false
+isBeyond c lql b = false
+isBeyond c (node n) b = false
+isBeyond c (scalar s) b = mustFit s && eqb (length b) (widthOf s) && satisfies (λ v. ltb (mostOf s) (number b + v)) (linkValue c s)
+
+-- 36: aggregated throughput or latency, A=0, the sum beyond the field
+abbrev pub overflows : Neighbour → Object → Bool
+overflows c o = isAggregated (role o) && eqb (fieldA o) 0 && isBeyond c (kind o) (o .body)
+
+-- 31 to 34 and 36 at an object
+abbrev pub leafCases : Own → Neighbour → Object → List Case
+leafCases own c o = 31 when unknownAggregated o ∷ 32 when notAllowed o ∷ 33 when noValue own c o ∷ 34 when fullCount o ∷ 36 when overflows c o ∷ []
+
+-- the lowest of 31 to 34 and 36 at an object
 unfoldable pub objectLeaf : Own → Neighbour → Object → ℕ
 objectLeaf own c o = firstCase (leafCases own c o)
 

@@ -1,4 +1,4 @@
--- Leaf answers 31 to 35, on each side of each boundary.
+-- Leaf answers 31 to 36, on each side of each boundary.
 use Prim.Native.Nat.{ℕ, _*_}
 use mathlib.Core.List.{List, [], _∷_, _++_, map}
 use lib.ListN.{replicate}
@@ -36,6 +36,10 @@ operations =
     ∷ aggregated own0 (throughputOf 1) 4 (0x00 ∷ 0x00 ∷ 0x00 ∷ 0x01 ∷ []) gives (0 ∷ 0 ∷ 0 ∷ 32 ∷ 32 ∷ 32 ∷ 32 ∷ 32 ∷ [])
     ∷ aggregated own0 (latencyOf 1) 5 (0x00 ∷ 0x00 ∷ 0x00 ∷ 0x01 ∷ []) gives (0 ∷ 0 ∷ 0 ∷ 32 ∷ 32 ∷ 32 ∷ 32 ∷ 32 ∷ [])
     ∷ aggregated own0 (etxOf 128) 7 (0x00 ∷ 0x80 ∷ []) gives (0 ∷ 0 ∷ 0 ∷ 32 ∷ 32 ∷ 32 ∷ 32 ∷ 32 ∷ [])
+    -- a sum past the maximum: throughput and latency, A=0, are 36; ETX stops
+    ∷ aggregated own0 (throughputOf 1) 4 (replicate 4 0xFF) gives (36 ∷ 0 ∷ 0 ∷ 32 ∷ 32 ∷ 32 ∷ 32 ∷ 32 ∷ [])
+    ∷ aggregated own0 (latencyOf 1) 5 (replicate 4 0xFF) gives (36 ∷ 0 ∷ 0 ∷ 32 ∷ 32 ∷ 32 ∷ 32 ∷ 32 ∷ [])
+    ∷ aggregated own0 (etxOf 1) 7 (replicate 2 0xFF) gives (0 ∷ 0 ∷ 0 ∷ 32 ∷ 32 ∷ 32 ∷ 32 ∷ 32 ∷ [])
     -- the lowest number at an object: unknown type is 31, a value that is unknown too is 32, HP at 255 too is 32
     ∷ aggregated own0 neighbour0 200 (0x00 ∷ []) gives replicate 8 31
     ∷ aggregated own0 neighbour0 7 (0x00 ∷ 0x80 ∷ []) gives (33 ∷ 33 ∷ 33 ∷ 32 ∷ 32 ∷ 32 ∷ 32 ∷ 32 ∷ [])
@@ -82,6 +86,47 @@ leaves =
     ∷ hop own0 neighbour0 (one 7 0x00 0x00 (0x00 ∷ 0x00 ∷ []) ++ one 1 0x00 0x30 (0x00 ∷ 0x00 ∷ [])) gives 33
     ∷ []
 
+-- ---- 36
+
+abbrev pub sums : List (Example Calling ℕ)
+sums =
+    -- throughput: 4294967294 + 1 and + 2; 4294967295 + 0, + 1 and + 4294967295
+    hop own0 (throughputOf 1) (one 4 0x00 0x00 (0xFF ∷ 0xFF ∷ 0xFF ∷ 0xFE ∷ [])) gives 0
+    ∷ hop own0 (throughputOf 2) (one 4 0x00 0x00 (0xFF ∷ 0xFF ∷ 0xFF ∷ 0xFE ∷ [])) gives 36
+    ∷ hop own0 (throughputOf 0) (one 4 0x00 0x00 (replicate 4 0xFF)) gives 0
+    ∷ hop own0 (throughputOf 1) (one 4 0x00 0x00 (replicate 4 0xFF)) gives 36
+    ∷ hop own0 (throughputOf 0xFFFFFFFF) (one 4 0x00 0x00 (replicate 4 0xFF)) gives 36
+    -- latency: the same, and 0 and 1 + 4294967295
+    ∷ hop own0 (latencyOf 1) (one 5 0x00 0x00 (0xFF ∷ 0xFF ∷ 0xFF ∷ 0xFE ∷ [])) gives 0
+    ∷ hop own0 (latencyOf 2) (one 5 0x00 0x00 (0xFF ∷ 0xFF ∷ 0xFF ∷ 0xFE ∷ [])) gives 36
+    ∷ hop own0 (latencyOf 0) (one 5 0x00 0x00 (replicate 4 0xFF)) gives 0
+    ∷ hop own0 (latencyOf 1) (one 5 0x00 0x00 (replicate 4 0xFF)) gives 36
+    ∷ hop own0 (latencyOf 0xFFFFFFFF) (one 5 0x00 0x00 (0x00 ∷ 0x00 ∷ 0x00 ∷ 0x00 ∷ [])) gives 0
+    ∷ hop own0 (latencyOf 0xFFFFFFFF) (one 5 0x00 0x00 (0x00 ∷ 0x00 ∷ 0x00 ∷ 0x01 ∷ [])) gives 36
+    -- each by its own number of the link, whatever the other is
+    ∷ hop own0 (linkOf 0x38 0 65535 0xFFFFFFFF 0) (one 4 0x00 0x00 (replicate 4 0xFF)) gives 0
+    ∷ hop own0 (linkOf 0x38 0 65535 0 0xFFFFFFFF) (one 5 0x00 0x00 (replicate 4 0xFF)) gives 0
+    -- ETX stops at 65535
+    ∷ hop own0 (etxOf 1) (one 7 0x00 0x00 (0xFF ∷ 0xFF ∷ [])) gives 0
+    -- no other bit of the header counts: reserved bits, P, O and Prec
+    ∷ hop own0 (throughputOf 1) (one 4 0xFD 0x0F (replicate 4 0xFF)) gives 36
+    ∷ hop own0 (latencyOf 1) (one 5 0xFD 0x0F (replicate 4 0xFF)) gives 36
+    -- not recorded, nor a constraint
+    ∷ hop own0 (throughputOf 1) (one 4 0x00 0x80 (replicate 4 0xFF)) gives 0
+    ∷ hop own0 (latencyOf 1) (one 5 0x00 0x80 (replicate 4 0xFF)) gives 0
+    ∷ hop own0 (throughputOf 1) (one 4 0x03 0x00 (replicate 4 0xFF)) gives 0
+    ∷ hop own0 (latencyOf 1) (one 5 0x02 0x00 (replicate 4 0xFF)) gives 0
+    -- a value that is unknown is 33, whatever number stands there
+    ∷ hop own0 (linkOf 0x18 0 1 1 1) (one 4 0x00 0x00 (replicate 4 0xFF)) gives 33
+    ∷ hop own0 (linkOf 0x28 0 1 1 1) (one 5 0x00 0x00 (replicate 4 0xFF)) gives 33
+    -- the first object with one of 31 to 34 and 36
+    ∷ hop own0 (latencyOf 1) (one 5 0x00 0x00 (replicate 4 0xFF) ++ one 200 0x00 0x00 []) gives 36
+    ∷ hop own0 (latencyOf 1) (one 200 0x00 0x00 [] ++ one 5 0x00 0x00 (replicate 4 0xFF)) gives 31
+    ∷ hop own0 (throughputOf 1) (one 3 0x00 0x00 (0x00 ∷ 255 ∷ []) ++ one 4 0x00 0x00 (replicate 4 0xFF)) gives 34
+    ∷ hop own0 (throughputOf 1) (one 4 0x00 0x00 (replicate 4 0xFF) ++ one 3 0x00 0x00 (0x00 ∷ 255 ∷ [])) gives 36
+    ∷ hop own0 (latencyOf 1) (one 3 0x00 0x00 (0x00 ∷ 254 ∷ []) ++ one 5 0x00 0x00 (replicate 4 0xFF)) gives 36
+    ∷ []
+
 -- ---- 35
 
 -- a recorded object of unknown type, and behind it another object
@@ -111,6 +156,10 @@ long =
     ∷ hop own0 (etxOf 128) (one 7 0x00 0x80 (replicate 250 0x00)) gives 35
     -- nothing grows: 4 + 251 = 255
     ∷ hop own0 neighbour0 (behind 251 []) gives 0
+    -- behind 36 too: recorded latency, 8 bytes, leaves with 12: 4 + 231 + 12 + 8 = 255, and 256
+    ∷ hop own0 (linkOf 0x30 0 0 1 1) (behind 231 (one 5 0x00 0x80 (replicate 4 0xFF) ++ one 4 0x00 0x00 (0xFF ∷ 0xFF ∷ 0xFF ∷ 0xFE ∷ []))) gives 0
+    ∷ hop own0 (linkOf 0x30 0 0 1 1) (behind 232 (one 5 0x00 0x80 (replicate 4 0xFF) ++ one 4 0x00 0x00 (0xFF ∷ 0xFF ∷ 0xFF ∷ 0xFE ∷ []))) gives 35
+    ∷ hop own0 (linkOf 0x30 0 0 1 1) (behind 232 (one 5 0x00 0x80 (replicate 4 0xFF) ++ one 4 0x00 0x00 (replicate 4 0xFF))) gives 36
     -- behind 34, wherever it stands
     ∷ hop own0 (etxOf 128) (behind 239 (one 7 0x00 0x80 (0x00 ∷ 0x80 ∷ []) ++ one 3 0x00 0x00 (0x00 ∷ 255 ∷ []))) gives 34
     ∷ []
@@ -127,5 +176,7 @@ leafCalls =
     ∷ hop own0 neighbour0 (one 1 0x00 0x00 (0x00 ∷ 0x00 ∷ [])) gives leafOnly 32
     ∷ hop own0 neighbour0 (one 7 0x00 0x00 (0x00 ∷ 0x80 ∷ [])) gives leafOnly 33
     ∷ hop own0 neighbour0 (one 3 0x00 0x00 (0x00 ∷ 255 ∷ [])) gives leafOnly 34
+    ∷ hop own0 (throughputOf 1) (one 4 0x00 0x00 (replicate 4 0xFF)) gives leafOnly 36
+    ∷ hop own0 (latencyOf 1) (one 5 0x00 0x00 (replicate 4 0xFF)) gives leafOnly 36
     ∷ hop own0 (etxOf 128) (behind 244 (one 7 0x00 0x80 (0x00 ∷ 0x80 ∷ []))) gives leafOnly 35
     ∷ []

@@ -31,13 +31,20 @@ returns-4 : tie.Need-returns-4
 returns-4 c =
     rw (← c .before .before .before .before .before .before .before .before .is-known .ensures, c .before .before .before .before .before .before .before .if1 .left, ← c .before .before .before .before .before .before .is-allowed .ensures, c .before .before .before .before .before .if2 .left, ← c .before .before .before .before .local-value .ensures, ← c .before .before .before .is-unknown .ensures, c .before .before .if3 .left, ← c .before .has-no-energy .ensures, c .if4 .taken)
 
-full-or-0-requires : tie.Need-full-or-0-requires
-full-or-0-requires c κs = search needs
+is-full-requires : tie.Need-is-full-requires
+is-full-requires c κs = search needs
 
 returns-5 : tie.Need-returns-5
 returns-5 c =
-    c .full-or-0 .ensures
-    ∙ rw (← c .before .before .before .before .before .before .before .before .before .is-known .ensures, c .before .before .before .before .before .before .before .before .if1 .left, ← c .before .before .before .before .before .before .before .is-allowed .ensures, c .before .before .before .before .before .before .if2 .left, ← c .before .before .before .before .before .local-value .ensures, ← c .before .before .before .before .is-unknown .ensures, c .before .before .before .if3 .left, ← c .before .before .has-no-energy .ensures, c .before .if4 .left)
+    rw (← c .before .before .before .before .before .before .before .before .before .before .is-known .ensures, c .before .before .before .before .before .before .before .before .before .if1 .left, ← c .before .before .before .before .before .before .before .before .is-allowed .ensures, c .before .before .before .before .before .before .before .if2 .left, ← c .before .before .before .before .before .before .local-value .ensures, ← c .before .before .before .before .before .is-unknown .ensures, c .before .before .before .before .if3 .left, ← c .before .before .before .has-no-energy .ensures, c .before .before .if4 .left, ← c .before .is-full .ensures, c .if5 .taken)
+
+over-or-0-requires : tie.Need-over-or-0-requires
+over-or-0-requires c κs = search needs
+
+returns-6 : tie.Need-returns-6
+returns-6 c =
+    c .over-or-0 .ensures
+    ∙ rw (← c .before .before .before .before .before .before .before .before .before .before .before .is-known .ensures, c .before .before .before .before .before .before .before .before .before .before .if1 .left, ← c .before .before .before .before .before .before .before .before .before .is-allowed .ensures, c .before .before .before .before .before .before .before .before .if2 .left, ← c .before .before .before .before .before .before .before .local-value .ensures, ← c .before .before .before .before .before .before .is-unknown .ensures, c .before .before .before .before .before .if3 .left, ← c .before .before .before .before .has-no-energy .ensures, c .before .before .before .if4 .left, ← c .before .before .is-full .ensures, c .before .if5 .left)
 
 pub aggregated-leaf-spec : {M : Type 1} → statement M
 aggregated-leaf-spec =
@@ -52,5 +59,7 @@ aggregated-leaf-spec =
     returns-3
     has-no-energy-requires
     returns-4
-    full-or-0-requires
-    returns-5)
+    is-full-requires
+    returns-5
+    over-or-0-requires
+    returns-6)
