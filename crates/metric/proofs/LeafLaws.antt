@@ -57,7 +57,7 @@ module _ (c : Neighbour) (b : List ℕ) where
       → isOver (sumIn 4294967295 (numberIn 4 b) v) ≡ isBeyond c (kindOf t) b
   unfolding kindOf
   beyond-known t v e l h = past-number b v h ∙ by-type (λ t. not (eqb t 4) && not (eqb t 5) ≡ false → linkOf c (kindOf t) ≡ Known v
-          → eqb (length b) 4 && ltb 4294967295 (number b + v) ≡ isBeyond c (kindOf t) b)
+      → eqb (length b) 4 && ltb 4294967295 (number b + v) ≡ isBeyond c (kindOf t) b)
       other other other other (λ e l. rw l) (λ e l. rw l) other other (λ t p e. absurd (true≢false (rw (p .four, p .five) at e))) t e l
     where
       other : {A B : Type 0} → true ≡ false → A → B

@@ -1,20 +1,24 @@
 -- Every leaf answer is given exactly when document 01 says, for a parent with given objects.
 use mathlib.Core.Path.{_≡_, refl, sym, _∙_}
-use Prim.Native.Nat.{ℕ, zero, suc, _≤_}
+use Prim.Native.Nat.{ℕ, zero, suc, _+_, _/_, _%_, _≤_}
 use lib.ListN.{length}
-use borrow.Author.Tests.{ltb-false}
+use lib.Dec.{ltb, eqb}
+use borrow.Author.Tests.{ltb-false, ne-eqb}
 use native.Mathlib.Omega.{arith}
-use mathlib.Core.Bool.{Bool, true, false, _||_, false≢true, true≢false}
+use mathlib.Core.Bool.{Bool, true, false, cond, _&&_, _||_, and-assoc, and-false, or-false, false≢true, true≢false}
 use mathlib.Core.List.{List, [], _∷_, map}
 use mathlib.Core.Logic.{_↔_}
 use Rattle.model.specs.declared.Own.{Own}
 use Rattle.model.specs.declared.Neighbour.{Neighbour}
-use Rattle.model.specs.Number.{anyOf, _when_, firstCase, first, firstOf, indexOf}
-use Rattle.model.specs.Object.{Object, join}
-use Rattle.model.specs.Update.{unknownAggregated, notAllowed, noValue, fullCount, overflows, leafCases, objectLeaf, tooLong, leafAnswer, update}
+use Rattle.model.specs.declared.Quantity.the-variants.{Known, Unknown}
+use Rattle.model.specs.Number.{isSet, knownIf, satisfies, number, anyOf, _when_, firstCase, first, firstOf, indexOf}
+use Rattle.model.specs.Object.{Object, fieldA, join, kindOf, roleBits, roleOf, isAggregated}
+use Rattle.model.specs.Constraint.{linkValue}
+use Rattle.model.specs.Update.{unknownAggregated, notAllowed, noValue, fullCount, isBeyond, overflows, leafCases, objectLeaf, tooLong, leafAnswer, update}
 use Rattle.model.specs.Conditions.{someHas}
-use Rattle.model.specs.Exact.{FirstToHold, leafTests, LeafAt, LeafExact}
+use Rattle.model.specs.Exact.{FirstToHold, leafTests, LeafAt, LeafExact, OverflowTypes}
 use Rattle.model.proofs.BoolLaws.{neither}
+use Rattle.model.proofs.TypeLaws.{by-type}
 use Rattle.model.proofs.NumberLaws.{exact, exact-none, isGiven, given-case, firstOf-all, given-firstOf, first-with}
 
 module _ (own : Own) (c : Neighbour) where
@@ -117,3 +121,35 @@ unfolding tooLong
 fits own c os e =
     let (a, b) = neither (someHas (leafTests own c) os) _ (leaf-exact own c os .no-leaf .0 e) in
     ltb-false 255 (length (join (update own c os))) (neither (tooLong own c os) false b .0)
+
+-- ---- leaf answer 36 by numbers
+
+aggregated-bits : (c r : ℕ) → isAggregated (roleBits c r) ≡ eqb c 0 && eqb r 0
+aggregated-bits zero zero = refl
+aggregated-bits zero (suc r) = sym (ne-eqb (suc r) 0 (λ e. omega arith))
+aggregated-bits (suc c) r = rw (ne-eqb (suc c) 0 (λ e. omega arith))
+
+-- a value that is known where its bit is 1, in a test
+satisfies-if : (f : ℕ → Bool) (b v : ℕ) → satisfies f (knownIf b v) ≡ isSet b && f v
+satisfies-if f b v = go (isSet b)
+  where
+    go : (s : Bool) → satisfies f (cond s (Known v) Unknown) ≡ s && f v
+    go true = refl
+    go false = refl
+
+beyond-types : (c : Neighbour) (b : List ℕ) (t : ℕ) → isBeyond c (kindOf t) b
+    ≡ eqb (length b) 4 && (eqb t 4 && isSet (c .flags / 32 % 2) && ltb 4294967295 (number b + c .throughput)
+    || eqb t 5 && isSet (c .flags / 16 % 2) && ltb 4294967295 (number b + c .latency))
+unfolding kindOf linkValue
+beyond-types c b = by-type _ none none none none
+    (rw (satisfies-if (λ v. ltb 4294967295 (number b + v)) (c .flags / 32 % 2) (c .throughput), or-false (isSet (c .flags / 32 % 2) && ltb 4294967295 (number b + c .throughput))))
+    (rw (satisfies-if (λ v. ltb 4294967295 (number b + v)) (c .flags / 16 % 2) (c .latency)))
+    none none (λ t p. rw (p .kind, p .four, p .five) none)
+  where
+    none : false ≡ eqb (length b) 4 && false
+    none = sym (and-false (eqb (length b) 4))
+
+pub overflow-types : OverflowTypes
+unfolding roleOf
+overflow-types c o = rw (aggregated-bits (o .flags / 2 % 2) (o .mode / 128 % 2), beyond-types c (o .body) (o .type))
+    (sym (and-assoc (eqb (o .flags / 2 % 2) 0 && eqb (o .mode / 128 % 2) 0 && eqb (fieldA o) 0) (eqb (length (o .body)) 4) _))

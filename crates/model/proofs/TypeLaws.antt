@@ -1,23 +1,19 @@
--- Types by number: which are known, which metrics bar 17 refuses, and which sums are leaf answer 36.
+-- Types by number: which are known, and which metrics bar 17 refuses.
 use mathlib.Core.Path.{_≡_, refl, sym, _∙_}
-use Prim.Native.Nat.{zero, suc, ℕ, _+_, _/_, _%_, _≤_, _<_}
+use Prim.Native.Nat.{zero, suc, ℕ, _/_, _%_, _≤_, _<_}
 use native.Mathlib.Omega.{arith}
-use mathlib.Core.Bool.{Bool, true, false, cond, Bool·beq, _&&_, _||_, and-assoc, and-false, or-false, false≢true, not}
-use mathlib.Core.List.{List}
-use lib.ListN.{length, List·getD-eq-default}
+use mathlib.Core.Bool.{Bool, true, false, Bool·beq, _&&_, _||_, and-false, false≢true, not}
+use lib.ListN.{List·getD-eq-default}
 use lib.Dec.{leb, ltb, eqb}
 use borrow.Author.Tests.{lt-leb, eq-eqb, ne-eqb, ltb-true, ltb-false}
-use Rattle.model.specs.declared.Neighbour.{Neighbour}
-use Rattle.model.specs.declared.Quantity.the-variants.{Known, Unknown}
-use Rattle.model.specs.Number.{isSet, knownIf, satisfies, number}
-use Rattle.model.specs.Object.{Object, fieldA, isConstraint, isAggregated, isHp, Kind, unknown, lql, node, scalar, nsa, ne, hp, throughput, latency, etx, kinds, kindOf, known, roleBits, roleOf}
+use Rattle.model.specs.Number.{isSet}
+use Rattle.model.specs.Object.{Object, isConstraint, isHp, Kind, unknown, lql, node, scalar, nsa, ne, hp, throughput, latency, etx, kinds, kindOf, known, roleBits, roleOf}
 use Rattle.model.specs.Table.{row}
 use Rattle.model.specs.Reading.{cannotBe}
-use Rattle.model.specs.Constraint.{linkValue, unknownMandatory}
-use Rattle.model.specs.Update.{isBeyond}
+use Rattle.model.specs.Constraint.{unknownMandatory}
 use Rattle.model.specs.Cut.{mayHaveTlvs}
 use Rattle.model.specs.Unknown.{isUnknownMandatory}
-use Rattle.model.specs.Exact.{KnownTypes, TlvTypes, MisusedTypes, OverflowTypes}
+use Rattle.model.specs.Exact.{KnownTypes, TlvTypes, MisusedTypes}
 use Rattle.model.proofs.NumberLaws.{allBelow, below-all}
 
 pub beq-true : (a b : Bool) → Bool·beq a b ≡ true → a ≡ b
@@ -171,35 +167,3 @@ by-type P p0 p1 p2 p3 p4 p5 p6 p7 f (suc (suc (suc (suc (suc zero))))) = p5
 by-type P p0 p1 p2 p3 p4 p5 p6 p7 f (suc (suc (suc (suc (suc (suc zero)))))) = p6
 by-type P p0 p1 p2 p3 p4 p5 p6 p7 f (suc (suc (suc (suc (suc (suc (suc zero))))))) = p7
 by-type P p0 p1 p2 p3 p4 p5 p6 p7 f (suc (suc (suc (suc (suc (suc (suc (suc n)))))))) = f _ (past _ (omega arith))
-
--- ---- leaf answer 36 by numbers
-
-aggregated-bits : (c r : ℕ) → isAggregated (roleBits c r) ≡ eqb c 0 && eqb r 0
-aggregated-bits zero zero = refl
-aggregated-bits zero (suc r) = sym (ne-eqb (suc r) 0 (λ e. omega arith))
-aggregated-bits (suc c) r = rw (ne-eqb (suc c) 0 (λ e. omega arith))
-
--- a value that is known where its bit is 1, in a test
-satisfies-if : (f : ℕ → Bool) (b v : ℕ) → satisfies f (knownIf b v) ≡ isSet b && f v
-satisfies-if f b v = go (isSet b)
-  where
-    go : (s : Bool) → satisfies f (cond s (Known v) Unknown) ≡ s && f v
-    go true = refl
-    go false = refl
-
-beyond-types : (c : Neighbour) (b : List ℕ) (t : ℕ) → isBeyond c (kindOf t) b
-    ≡ eqb (length b) 4 && (eqb t 4 && isSet (c .flags / 32 % 2) && ltb 4294967295 (number b + c .throughput)
-    || eqb t 5 && isSet (c .flags / 16 % 2) && ltb 4294967295 (number b + c .latency))
-unfolding kindOf linkValue
-beyond-types c b = by-type _ none none none none
-    (rw (satisfies-if (λ v. ltb 4294967295 (number b + v)) (c .flags / 32 % 2) (c .throughput), or-false (isSet (c .flags / 32 % 2) && ltb 4294967295 (number b + c .throughput))))
-    (rw (satisfies-if (λ v. ltb 4294967295 (number b + v)) (c .flags / 16 % 2) (c .latency)))
-    none none (λ t p. rw (p .kind, p .four, p .five) none)
-  where
-    none : false ≡ eqb (length b) 4 && false
-    none = sym (and-false (eqb (length b) 4))
-
-pub overflow-types : OverflowTypes
-unfolding roleOf
-overflow-types c o = rw (aggregated-bits (o .flags / 2 % 2) (o .mode / 128 % 2), beyond-types c (o .body) (o .type))
-    (sym (and-assoc (eqb (o .flags / 2 % 2) 0 && eqb (o .mode / 128 % 2) 0 && eqb (fieldA o) 0) (eqb (length (o .body)) 4) _))
