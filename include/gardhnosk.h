@@ -53,7 +53,8 @@ enum {
     GARDHNOSK_LEAF_AGGREGATE = 32, /* a metric is aggregated in a way that its type does not allow */
     GARDHNOSK_LEAF_VALUE = 33,     /* the local value of an aggregated metric is unknown, or energy came without an estimate */
     GARDHNOSK_LEAF_HOPS = 34,      /* the hop count is 255 already */
-    GARDHNOSK_LEAF_LENGTH = 35     /* the container to send on would have more than 255 bytes of data */
+    GARDHNOSK_LEAF_LENGTH = 35,    /* the container to send on would have more than 255 bytes of data */
+    GARDHNOSK_LEAF_SUM = 36        /* a throughput or latency added up along the path would be above 4294967295 */
 };
 
 enum {

@@ -277,28 +277,41 @@ typedef struct {
     const char *container;
     size_t zeros; /* bytes of it behind those */
     int wanted;
+    unsigned long size; /* of what is passed on */
 } leaf_t;
 
+/* the link's latency and throughput are 1, its ETX is not known */
 static const leaf_t leaves[] = {
-    {"02 04 C8 00 00 00", 0, GARDHNOSK_LEAF_UNKNOWN},     {"02 06 07 00 30 02 00 01", 0, GARDHNOSK_LEAF_AGGREGATE},
-    {"02 06 07 00 00 02 00 01", 0, GARDHNOSK_LEAF_VALUE}, {"02 06 03 00 00 02 00 FF", 0, GARDHNOSK_LEAF_HOPS},
-    {"02 FE 02 00 80 FA", 250, GARDHNOSK_LEAF_LENGTH},    {"02 FC 02 00 80 F8", 248, GARDHNOSK_NONE},
+    {"02 04 C8 00 00 00", 0, GARDHNOSK_LEAF_UNKNOWN, 0},
+    {"02 06 07 00 30 02 00 01", 0, GARDHNOSK_LEAF_AGGREGATE, 0},
+    {"02 06 07 00 00 02 00 01", 0, GARDHNOSK_LEAF_VALUE, 0},
+    {"02 06 03 00 00 02 00 FF", 0, GARDHNOSK_LEAF_HOPS, 0},
+    {"02 FE 02 00 80 FA", 250, GARDHNOSK_LEAF_LENGTH, 0},
+    {"02 FC 02 00 80 F8", 248, GARDHNOSK_NONE, 256},
+    {"02 08 04 00 00 04 FF FF FF FF", 0, GARDHNOSK_LEAF_SUM, 0},
+    {"02 08 05 00 00 04 FF FF FF FF", 0, GARDHNOSK_LEAF_SUM, 0},
+    {"02 08 05 00 00 04 FF FF FF FE", 0, GARDHNOSK_NONE, 10},
 };
 
 static void check_leaves(void)
 {
     for (size_t i = 0; i < LENGTH(leaves); i++) {
-        int leaf = leaves[i].wanted != GARDHNOSK_NONE;
         call_t call = new_call();
         put_candidate(&call, 0, leaves[i].container);
+        call.candidates.at[0].neighbour.flags = GARDHNOSK_LATENCY_KNOWN | GARDHNOSK_THROUGHPUT_KNOWN;
+        call.candidates.at[0].neighbour.latency = 1;
+        call.candidates.at[0].neighbour.throughput = 1;
         call.lent_size += leaves[i].zeros;
         call.candidates.at[0].size += leaves[i].zeros;
         run(&call);
         same("leaf answer", leaves[i].container, call.answer.leaf, (unsigned long)leaves[i].wanted);
         same("leaf answer", "verdict", call.answer.verdicts[0], GARDHNOSK_UNBARRED);
         same("leaf answer", "parent", call.answer.parent, 0);
-        same("leaf answer", "size", call.answer.size, leaf ? 0 : 256);
-        same("leaf answer", "output", call.out[0], leaf ? 0xEE : 2);
+        same("leaf answer", "rank", call.answer.rank, 1024);
+        same("leaf answer", "bits", call.answer.bits, 1);
+        same("leaf answer", "count", call.answer.count, 1);
+        same("leaf answer", "size", call.answer.size, leaves[i].size);
+        for (size_t at = leaves[i].size; at < sizeof call.out; at++) same("leaf answer", "output", call.out[at], 0xEE);
     }
 }
 

@@ -13,7 +13,7 @@ pub const ASKED_FROM: u64 = 200_000;
 
 const REFUSALS: [u8; 5] = [0, 1, 2, 3, 4];
 const VERDICTS: [u8; 13] = [0, 10, 11, 12, 13, 14, 15, 16, 17, 18, 19, 20, 21];
-const LEAVES: [u8; 6] = [0, 31, 32, 33, 34, 35];
+const LEAVES: [u8; 7] = [0, 31, 32, 33, 34, 35, 36];
 const LISTINGS: [u8; 6] = [0, 13, 14, 15, 16, 17];
 
 /// How often each sort of pair was tried.

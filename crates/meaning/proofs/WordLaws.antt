@@ -40,12 +40,12 @@ short : ℕ → Bool
 short n = leb (length (meaning n)) meaningRoom
 
 -- the words for a number of the table have room
-pub meaning-short : (n : ℕ) → n < 36 → length (meaning n) ≤ meaningRoom
+pub meaning-short : (n : ℕ) → n < 37 → length (meaning n) ≤ meaningRoom
 unfolding meaning codesFrom wordsIn table short
-meaning-short n h = leb-true (length (meaning n)) meaningRoom (at-each short 36 n refl h)
+meaning-short n h = leb-true (length (meaning n)) meaningRoom (at-each short 37 n refl h)
 
 -- all words
-pub all-length : length (wordsBefore 36) ≡ 1249
+pub all-length : length (wordsBefore 37) ≡ 1322
 unfolding wordsBefore meaning codesFrom wordsIn table
 all-length = refl
 
@@ -62,10 +62,10 @@ no-words m ((k, words) ∷ rows) n e h =
     let l : k < m = ltb-true k m (b .0) in
     rw (ne-eqb n k (λ q. omega arith)) (no-words m rows n (b .1) h)
 
--- a number above 35 has no meaning
-pub meaning-none : (n : ℕ) → 35 < n → meaning n ≡ []
+-- a number above 36 has no meaning
+pub meaning-none : (n : ℕ) → 36 < n → meaning n ≡ []
 unfolding meaning table codesFrom numbersBelow
-meaning-none n h = let e : wordsIn table n ≡ "" = no-words 36 table n refl h in rw e
+meaning-none n h = let e : wordsIn table n ≡ "" = no-words 37 table n refl h in rw e
 
 -- ---- where the words for a number stand
 
@@ -95,26 +95,26 @@ stands (suc m) n h = go (ltb n m) refl (stands m n)
         ([], ap (λ k. wordsBefore k ++ meaning k) s ∙ ap (λ w. wordsBefore n ++ w) (sym (append-nil (meaning n))))
 
 -- a byte of the words for a number is one of all words
-pub byte-inside : (n i : ℕ) {start : ℕ} → n < 36 → i < length (meaning n) → start ≡ length (wordsBefore n) → start + i < length (wordsBefore 36)
+pub byte-inside : (n i : ℕ) {start : ℕ} → n < 37 → i < length (meaning n) → start ≡ length (wordsBefore n) → start + i < length (wordsBefore 37)
 byte-inside n i {start} h l s =
-    let (rest, e) = stands 36 n h in
-    let a : length (wordsBefore 36) ≡ length (wordsBefore n) + (length (meaning n) + length rest) =
+    let (rest, e) = stands 37 n h in
+    let a : length (wordsBefore 37) ≡ length (wordsBefore n) + (length (meaning n) + length rest) =
     ap length e ∙ length-append (wordsBefore n) (meaning n ++ rest) ∙ ap (λ k. length (wordsBefore n) + k) (length-append (meaning n) rest) in
     omega arith
 
 -- and stands as far behind where they begin
-pub byte-same : (n i : ℕ) {start : ℕ} → n < 36 → i < length (meaning n) → start ≡ length (wordsBefore n)
-    → getD (wordsBefore 36) (start + i) 0 ≡ getD (meaning n) i 0
+pub byte-same : (n i : ℕ) {start : ℕ} → n < 37 → i < length (meaning n) → start ≡ length (wordsBefore n)
+    → getD (wordsBefore 37) (start + i) 0 ≡ getD (meaning n) i 0
 byte-same n i {start} h l s =
-    let (rest, e) = stands 36 n h in
-    ap (λ k. getD (wordsBefore 36) (k + i) 0) s ∙ ap (λ w. getD w (length (wordsBefore n) + i) 0) e
+    let (rest, e) = stands 37 n h in
+    ap (λ k. getD (wordsBefore 37) (k + i) 0) s ∙ ap (λ w. getD w (length (wordsBefore n) + i) 0) e
     ∙ getD-append-add (wordsBefore n) (meaning n ++ rest) i 0 ∙ List·getD-append (meaning n) rest 0 i l
 
 -- ---- the copy
 
 -- the first bytes of the words for a number are copied into an output with room for any words
 pub record Copied (n start size : ℕ) (output : List ℕ) (i : ℕ) (left : List ℕ) : Type 0 where
-  pub listed : n < 36
+  pub listed : n < 37
   pub begins : start ≡ length (wordsBefore n)
   pub whole : size ≡ length (meaning n)
   pub room : meaningRoom ≤ length output
@@ -122,7 +122,7 @@ pub record Copied (n start size : ℕ) (output : List ℕ) (i : ℕ) (left : Lis
   pub left-is : left ≡ paste output 0 (meaning n) i
 
 -- none yet
-pub copied-none : (n start end : ℕ) (output : List ℕ) → n ≤ 35 → meaningRoom ≤ length output → start ≡ length (wordsBefore n) → end ≡ length (wordsBefore (n + 1))
+pub copied-none : (n start end : ℕ) (output : List ℕ) → n ≤ 36 → meaningRoom ≤ length output → start ≡ length (wordsBefore n) → end ≡ length (wordsBefore (n + 1))
     → Copied n start (end - start) output 0 output
 copied-none n start end output h m s e = record {
   listed = omega arith;
@@ -142,14 +142,14 @@ copied-length {n} {start} {size} {i} {output} {left} p =
 
 -- the next byte is there, and has room
 pub copied-next : {n start size i : ℕ} {output left : List ℕ} → Copied n start size output i left → i < size
-    → (start + i < length (wordsBefore 36)) × (i < length left) × (size ≤ meaningRoom)
+    → (start + i < length (wordsBefore 37)) × (i < length left) × (size ≤ meaningRoom)
 copied-next {n} {start} {size} {i} {output} {left} p l =
     let m = meaning-short n (p .listed) in
     let w = p .whole in
     (byte-inside n i (p .listed) (omega arith) (p .begins), omega (arith, p .room, copied-length p), omega arith)
 
 -- one byte more
-pub copied-more : {n start size i : ℕ} {output left words : List ℕ} → Copied n start size output i left → i < size → words ≡ wordsBefore 36
+pub copied-more : {n start size i : ℕ} {output left words : List ℕ} → Copied n start size output i left → i < size → words ≡ wordsBefore 37
     → Copied n start size output (i + 1) (set left i (getD words (start + i) 0))
 copied-more {n} {start} {size} {i} {output} {left} {words} p l e =
     let m = meaning-short n (p .listed) in
@@ -178,8 +178,8 @@ copied-all {n} {start} {size} {i} {output} {left} p l =
     rw e (rw (take-all (length (meaning n)) (meaning n) (omega arith), zero-add (length (meaning n)))) in
     rw (le-ltb (length output) meaningRoom (p .room)) (p .whole, p .left-is ∙ all)
 
--- a number above 35: the output stays
-pub none-told : (n : ℕ) (output : List ℕ) → 35 < n → (_≡_ {A = ℕ} 0 (told n (length output))) × (output ≡ toldIn n output)
+-- a number above 36: the output stays
+pub none-told : (n : ℕ) (output : List ℕ) → 36 < n → (_≡_ {A = ℕ} 0 (told n (length output))) × (output ≡ toldIn n output)
 unfolding told toldIn
 none-told n output h = rw (meaning-none n h) (go (ltb (length output) meaningRoom))
   where
@@ -194,10 +194,10 @@ pub told-inside : (n room : ℕ) → told n room ≤ room
 unfolding told
 told-inside n room = go (ltb room meaningRoom) refl
   where
-    short-or-none : (b : Bool) → ltb 35 n ≡ b → length (meaning n) ≤ meaningRoom
-    short-or-none true q = rw (meaning-none n (ltb-true 35 n q)) (omega arith)
-    short-or-none false q = meaning-short n (let l = ltb-false 35 n q in omega arith)
+    short-or-none : (b : Bool) → ltb 36 n ≡ b → length (meaning n) ≤ meaningRoom
+    short-or-none true q = rw (meaning-none n (ltb-true 36 n q)) (omega arith)
+    short-or-none false q = meaning-short n (let l = ltb-false 36 n q in omega arith)
 
     go : (b : Bool) → ltb room meaningRoom ≡ b → cond b 0 (length (meaning n)) ≤ room
     go true q = omega arith
-    go false q = let l = ltb-false room meaningRoom q in let s = short-or-none (ltb 35 n) refl in omega arith
+    go false q = let l = ltb-false room meaningRoom q in let s = short-or-none (ltb 36 n) refl in omega arith

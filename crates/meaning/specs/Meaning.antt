@@ -32,6 +32,7 @@ table =
     (33, "the local value of an aggregated metric is unknown, or energy came without an estimate") ∷
     (34, "the hop count is 255 already") ∷
     (35, "the container to send on would have more than 255 bytes of data") ∷
+    (36, "a throughput or latency added up along the path would be above 4294967295") ∷
     []
 
 -- the words for a number; none for one that is not in the table

@@ -9,7 +9,7 @@ ghost use Rattle.meaning.specs.Table.{wordsBefore};
 pub const MEANING_ROOM: usize = 100;
 
 // The words for 0, for 1 and so on, end to end; a number without a meaning has none.
-const WORDS: [u8; 1249] = *b"\
+const WORDS: [u8; 1322] = *b"\
     nothing to report: not refused, no leaf answer, or no candidate at this position\
     MinHopRankIncrease is 0, or the node's own type is above 3\
     more than 16 candidates\
@@ -32,6 +32,7 @@ const WORDS: [u8; 1249] = *b"\
     the local value of an aggregated metric is unknown, or energy came without an estimate\
     the hop count is 255 already\
     the container to send on would have more than 255 bytes of data\
+    a throughput or latency added up along the path would be above 4294967295\
     ";
 
 // Where the words for each number begin, ten numbers to a line.
@@ -39,20 +40,20 @@ const STARTS: [[u16; 10]; 4] = [
     [0, 80, 138, 161, 228, 264, 264, 264, 264, 264],
     [264, 272, 361, 403, 485, 546, 628, 703, 759, 797],
     [830, 898, 976, 976, 976, 976, 976, 976, 976, 976],
-    [976, 976, 1012, 1072, 1158, 1186, 1249, 1249, 1249, 1249],
+    [976, 976, 1012, 1072, 1158, 1186, 1249, 1322, 1322, 1322],
 ];
 
 // Where the words for a number begin among all words.
 fn start_of(number: usize) -> usize
-    requires { ⌜ number ≤ 36 ⌝ }
+    requires { ⌜ number ≤ 37 ⌝ }
     ensures { λ r. ⌜ r ≡ length (wordsBefore number) ⌝ }
 {
     STARTS[number / 10][number % 10] as usize
 }
 
 // All words: one copy for a call, where an index into the constant would make one each time.
-fn all_words() -> [u8; 1249]
-    ensures { λ r. ⌜ r ≡ wordsBefore 36 ⌝ }
+fn all_words() -> [u8; 1322]
+    ensures { λ r. ⌜ r ≡ wordsBefore 37 ⌝ }
 {
     WORDS
 }
@@ -66,7 +67,7 @@ pub fn put_meaning(number: u8, out: &mut [u8]) -> usize
     if out.len() < MEANING_ROOM {
         return 0;
     }
-    if 35 < number {
+    if 36 < number {
         return 0;
     }
     let start = start_of(number as usize);

@@ -13,13 +13,20 @@ const LEAVES: &[(&str, u8)] = &[
     ("02 06 02 00 20 02 00 00", 33),
     ("02 08 04 00 00 04 00 00 00 01", 33),
     ("02 06 03 00 00 02 00 FF", 34),
+    // the link's latency is 1000: 4294966296 and more do not add up
+    ("02 08 05 00 00 04 FF FF FC 18", 36),
+    ("02 08 05 FD 0F 04 FF FF FF FF", 36),
+    ("02 0D 05 00 00 04 FF FF FF FF C8 00 00 01 AA", 36),
+    ("02 0D C8 00 00 01 AA 05 00 00 04 FF FF FF FF", 31),
     // the first object that has one, though a later one has a lower number
     ("02 0B 03 00 00 02 00 FF C8 00 00 01 AA", 34),
 ];
 
 pub fn hold(trial: &mut Trial) {
     let full = format!("02 FE 07 00 80 FA {}", "00 ".repeat(250));
-    for (container, leaf) in LEAVES.iter().copied().chain([(full.as_str(), 35)]) {
+    let both = format!("02 FE 07 00 80 F2 {}05 00 00 04 FF FF FF FF", "00 ".repeat(242));
+    let long = [(full.as_str(), 35), (both.as_str(), 36)];
+    for (container, leaf) in LEAVES.iter().copied().chain(long) {
         let (answer, out) = trial.one(OWN, NEIGHBOUR, container);
         let given = (answer.verdicts[0], answer.parent, answer.rank);
         trial.expect(container, (10, 0, 512), given);

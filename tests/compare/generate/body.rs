@@ -111,7 +111,7 @@ impl Maker<'_> {
     }
 
     /// The body of an aggregated metric, its value where sums and comparisons turn.
-    pub fn total(&mut self, kind: u8) -> Body {
+    pub fn total(&mut self, kind: u8, a: u8) -> Body {
         let link = self.link;
         match kind {
             1 => Body {
@@ -131,8 +131,8 @@ impl Maker<'_> {
                 bytes: vec![self.random.byte(), self.hops],
                 smooth: self.hops < 255,
             },
-            4 => self.link_total(link.throughput(), link.throughput),
-            5 => self.link_total(link.latency(), link.latency),
+            4 => self.link_total(link.throughput(), link.throughput, a),
+            5 => self.link_total(link.latency(), link.latency, a),
             _ => {
                 let value = self.turning(link.etx.into(), 65535) as u16;
                 Body {
@@ -143,11 +143,11 @@ impl Maker<'_> {
         }
     }
 
-    fn link_total(&mut self, known: Option<u32>, value: u32) -> Body {
+    fn link_total(&mut self, known: Option<u32>, value: u32, a: u8) -> Body {
         let total = self.turning(value, u32::MAX);
         Body {
             bytes: total.to_be_bytes().to_vec(),
-            smooth: known.is_some(),
+            smooth: known.is_some() && (a != 0 || total.checked_add(value).is_some()),
         }
     }
 

@@ -64,7 +64,10 @@ impl<'a> Maker<'a> {
     pub fn known(&mut self, kind: u8, role: Role, room: usize) -> Vec<u8> {
         let (body, a) = match role {
             Role::Constraint => (self.limit(kind), self.random.below(8) as u8),
-            Role::Aggregated => (self.total(kind), self.aggregation(kind)),
+            Role::Aggregated => {
+                let a = self.aggregation(kind);
+                (self.total(kind, a), a)
+            }
             Role::Recorded => (self.record(kind, room), self.random.below(8) as u8),
         };
         // where all is to be in order a constraint that is not met is optional, and an aggregated

@@ -1,4 +1,4 @@
-//! The parent's container is updated for this hop, or the node joins as a leaf (31 to 35).
+//! The parent's container is updated for this hop, or the node joins as a leaf (31 to 36).
 
 use super::constraint::{long, word};
 use super::container::{Container, OPTION_TYPE};
@@ -40,7 +40,7 @@ impl Hop<'_> {
         Ok(at as u16)
     }
 
-    /// The lowest of leaf numbers 31 to 34 that an object gives.
+    /// The lowest of leaf numbers 31 to 34 and 36 that an object gives.
     fn leaf(&self, object: &Object) -> Option<u8> {
         if object.usage() != Usage::Aggregated {
             return None;
@@ -60,6 +60,8 @@ impl Hop<'_> {
             LATENCY if self.link.latency().is_none() => Some(33),
             ETX if self.link.etx().is_none() => Some(33),
             HP if object.body[1] == u8::MAX => Some(34),
+            THROUGHPUT if !adds_up(object, self.link.throughput) => Some(36),
+            LATENCY if !adds_up(object, self.link.latency) => Some(36),
             _ => None,
         }
     }
@@ -173,10 +175,15 @@ fn put(out: &mut [u8], bytes: &[u8]) -> usize {
     bytes.len()
 }
 
-/// The sum, stopping at the maximum of 32 bits, the larger, or the smaller.
+/// Whether a number of 32 bits, if it is to be added to the local one, has room for the sum.
+fn adds_up(object: &Object, local: u32) -> bool {
+    object.aggregation() != 0 || u64::from(long(object.body)) + u64::from(local) < 1 << 32
+}
+
+/// The sum, the larger, or the smaller.
 fn aggregated(a: u8, received: u32, local: u32) -> u32 {
     match a {
-        0 => received.saturating_add(local),
+        0 => received + local,
         1 => received.max(local),
         _ => received.min(local),
     }

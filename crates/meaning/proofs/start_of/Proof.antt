@@ -20,7 +20,7 @@ starts =
     (0 ∷ 80 ∷ 138 ∷ 161 ∷ 228 ∷ 264 ∷ 264 ∷ 264 ∷ 264 ∷ 264 ∷ []) ∷
     (264 ∷ 272 ∷ 361 ∷ 403 ∷ 485 ∷ 546 ∷ 628 ∷ 703 ∷ 759 ∷ 797 ∷ []) ∷
     (830 ∷ 898 ∷ 976 ∷ 976 ∷ 976 ∷ 976 ∷ 976 ∷ 976 ∷ 976 ∷ 976 ∷ []) ∷
-    (976 ∷ 976 ∷ 1012 ∷ 1072 ∷ 1158 ∷ 1186 ∷ 1249 ∷ 1249 ∷ 1249 ∷ 1249 ∷ []) ∷
+    (976 ∷ 976 ∷ 1012 ∷ 1072 ∷ 1158 ∷ 1186 ∷ 1249 ∷ 1322 ∷ 1322 ∷ 1322 ∷ []) ∷
     []
 
 abbrev startOf : ℕ → ℕ
@@ -29,16 +29,16 @@ startOf n = getD (getD starts (n / 10) []) (n % 10) 0
 right : ℕ → Bool
 right n = eqb (startOf n) (length (wordsBefore n))
 
-starts-right : (n : ℕ) → n ≤ 36 → startOf n ≡ length (wordsBefore n)
+starts-right : (n : ℕ) → n ≤ 37 → startOf n ≡ length (wordsBefore n)
 unfolding wordsBefore meaning codesFrom wordsIn table right
-starts-right n h = eqb-true (startOf n) (length (wordsBefore n)) (at-each right 37 n refl (omega arith))
+starts-right n h = eqb-true (startOf n) (length (wordsBefore n)) (at-each right 38 n refl (omega arith))
 
 few : ℕ → Bool
-few n = leb (startOf n) 1249
+few n = leb (startOf n) 1322
 
-starts-few : (n : ℕ) → n ≤ 36 → startOf n ≤ 1249
+starts-few : (n : ℕ) → n ≤ 37 → startOf n ≤ 1322
 unfolding few
-starts-few n h = leb-true (startOf n) 1249 (at-each few 37 n refl (omega arith))
+starts-few n h = leb-true (startOf n) 1322 (at-each few 38 n refl (omega arith))
 
 mul-result : tie.Need-mul-result
 mul-result c = search needs
