@@ -12,7 +12,7 @@ use Rattle.model.specs.Reading.{dataObjects}
 use Rattle.model.specs.Update.{update, objectLeaf}
 use Rattle.hop.specs.declared.plan.Planned.{Planned}
 
--- the first of 31 to 34 among objects, and their bytes for the next hop
+-- the first of 31 to 34 and 36 among objects, and their bytes for the next hop
 pub record Plans (own : Own) (c : Neighbour) (p : Planned) (es : List Object) : Type 0 where
   pub leaf : p .leaf ≡ firstOf (objectLeaf own c) es
   pub size : p .size ≡ length (join (update own c es))

@@ -1,4 +1,4 @@
-// One hop: leaf answers 31 to 35, and the parent's objects updated for the next hop.
+// One hop: leaf answers 31 to 36, and the parent's objects updated for the next hop.
 mod aggregated;
 mod bodies;
 mod bytes;

@@ -22,7 +22,7 @@ pub struct Sent {
     pub size: u16,
 }
 
-// What is known of the objects so far: the first of 31 to 34, or 0; the bytes of the objects for the next hop.
+// What is known of the objects so far: the first of 31 to 34 and 36, or 0; the bytes of the objects for the next hop.
 pub struct Planned {
     pub leaf: u8,
     pub size: usize,
