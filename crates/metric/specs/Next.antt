@@ -54,7 +54,10 @@ fullIn k b = isHp k && eqb (getD b 1 0) 255
 abbrev pub overIn : Neighbour → Kind → (a : ℕ) → List ℕ → ℕ
 overIn c k a b = cond (eqb a 0 && isBeyond c k b) 36 0
 
+-- 33, 34 and 36 at an aggregated metric
+abbrev pub valuedLeaf : Own → Neighbour → Kind → (a : ℕ) → List ℕ → ℕ
+valuedLeaf own c k a b = cond (isUnknown (localValue own c k) || noEnergy k b) 33 (cond (fullIn k b) 34 (overIn c k a b))
+
 -- 31 to 34 and 36 at an aggregated metric
 abbrev pub aggregatedLeaf : Own → Neighbour → Kind → (a : ℕ) → List ℕ → ℕ
-aggregatedLeaf own c k a b =
-    cond (not (known k)) 31 (cond (not (allowed k a)) 32 (cond (isUnknown (localValue own c k) || noEnergy k b) 33 (cond (fullIn k b) 34 (overIn c k a b))))
+aggregatedLeaf own c k a b = cond (not (known k)) 31 (cond (not (allowed k a)) 32 (valuedLeaf own c k a b))

@@ -6,7 +6,7 @@ ghost use Rattle.model.specs.Object.{kindOf};
 ghost use Rattle.model.specs.Table.{allowed};
 ghost use Rattle.model.specs.Update.{noEnergy, isBeyond, objectLeaf};
 ghost use Rattle.wire.specs.Step.{objectOf};
-ghost use Rattle.metric.specs.Next.{fullIn, overIn, aggregatedLeaf};
+ghost use Rattle.metric.specs.Next.{fullIn, overIn, valuedLeaf, aggregatedLeaf};
 use crate::values;
 use model::Neighbour;
 use model::Own;
@@ -84,6 +84,22 @@ fn over_or_0(neighbour: Neighbour, mctype: u8, a: u8, body: &[u8]) -> u8
     0
 }
 
+// The lowest of 33, 34 and 36 at an aggregated metric; 0 for none.
+fn valued_leaf(own: Own, neighbour: Neighbour, mctype: u8, a: u8, body: &[u8]) -> u8
+    ensures { λ r. ⌜ r ≡ valuedLeaf own neighbour (kindOf mctype) a (now (body .entry)) ⌝ }
+{
+    if values::is_unknown(values::local_value(own, neighbour, mctype)) {
+        return 33;
+    }
+    if has_no_energy(mctype, body) {
+        return 33;
+    }
+    if is_full(mctype, body) {
+        return 34;
+    }
+    over_or_0(neighbour, mctype, a, body)
+}
+
 // The lowest of 31 to 34 and 36 at an aggregated metric; 0 for none.
 fn aggregated_leaf(own: Own, neighbour: Neighbour, mctype: u8, a: u8, body: &[u8]) -> u8
     requires { ⌜ a < 8 ⌝ }
@@ -95,16 +111,7 @@ fn aggregated_leaf(own: Own, neighbour: Neighbour, mctype: u8, a: u8, body: &[u8
     if !is_allowed(mctype, a) {
         return 32;
     }
-    if values::is_unknown(values::local_value(own, neighbour, mctype)) {
-        return 33;
-    }
-    if has_no_energy(mctype, body) {
-        return 33;
-    }
-    if is_full(mctype, body) {
-        return 34;
-    }
-    over_or_0(neighbour, mctype, a, body)
+    valued_leaf(own, neighbour, mctype, a, body)
 }
 
 // The lowest of 31 to 34 and 36 at an object; 0 for none.
