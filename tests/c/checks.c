@@ -278,19 +278,21 @@ typedef struct {
     size_t zeros; /* bytes of it behind those */
     int wanted;
     unsigned long size; /* of what is passed on */
+    const char *sent;   /* how it begins */
 } leaf_t;
 
 /* the link's latency and throughput are 1, its ETX is not known */
 static const leaf_t leaves[] = {
-    {"02 04 C8 00 00 00", 0, GARDHNOSK_LEAF_UNKNOWN, 0},
-    {"02 06 07 00 30 02 00 01", 0, GARDHNOSK_LEAF_AGGREGATE, 0},
-    {"02 06 07 00 00 02 00 01", 0, GARDHNOSK_LEAF_VALUE, 0},
-    {"02 06 03 00 00 02 00 FF", 0, GARDHNOSK_LEAF_HOPS, 0},
-    {"02 FE 02 00 80 FA", 250, GARDHNOSK_LEAF_LENGTH, 0},
-    {"02 FC 02 00 80 F8", 248, GARDHNOSK_NONE, 256},
-    {"02 08 04 00 00 04 FF FF FF FF", 0, GARDHNOSK_LEAF_SUM, 0},
-    {"02 08 05 00 00 04 FF FF FF FF", 0, GARDHNOSK_LEAF_SUM, 0},
-    {"02 08 05 00 00 04 FF FF FF FE", 0, GARDHNOSK_NONE, 10},
+    {"02 04 C8 00 00 00", 0, GARDHNOSK_LEAF_UNKNOWN, 0, ""},
+    {"02 06 07 00 30 02 00 01", 0, GARDHNOSK_LEAF_AGGREGATE, 0, ""},
+    {"02 06 07 00 00 02 00 01", 0, GARDHNOSK_LEAF_VALUE, 0, ""},
+    {"02 06 03 00 00 02 00 FF", 0, GARDHNOSK_LEAF_HOPS, 0, ""},
+    {"02 FE 02 00 80 FA", 250, GARDHNOSK_LEAF_LENGTH, 0, ""},
+    {"02 FC 02 00 80 F8", 248, GARDHNOSK_NONE, 256, "02 FE 02 00 80 FA"},
+    {"02 08 04 00 00 04 FF FF FF FF", 0, GARDHNOSK_LEAF_SUM, 0, ""},
+    {"02 08 04 00 00 04 FF FF FF FE", 0, GARDHNOSK_NONE, 10, "02 08 04 00 00 04 FF FF FF FF"},
+    {"02 08 05 00 00 04 FF FF FF FF", 0, GARDHNOSK_LEAF_SUM, 0, ""},
+    {"02 08 05 00 00 04 FF FF FF FE", 0, GARDHNOSK_NONE, 10, "02 08 05 00 00 04 FF FF FF FF"},
 };
 
 static void check_leaves(void)
@@ -311,7 +313,10 @@ static void check_leaves(void)
         same("leaf answer", "bits", call.answer.bits, 1);
         same("leaf answer", "count", call.answer.count, 1);
         same("leaf answer", "size", call.answer.size, leaves[i].size);
-        for (size_t at = leaves[i].size; at < sizeof call.out; at++) same("leaf answer", "output", call.out[at], 0xEE);
+        size_t at = 0;
+        for (const char *hex = leaves[i].sent; *hex != 0; hex = next_byte(hex))
+            same("leaf answer", "what is passed on", call.out[at++], strtoul(hex, NULL, 16));
+        for (at = leaves[i].size; at < sizeof call.out; at++) same("leaf answer", "output", call.out[at], 0xEE);
     }
 }
 

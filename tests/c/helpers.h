@@ -42,12 +42,18 @@ typedef struct {
     gardhnosk_answer answer;
 } call_t;
 
+/* The byte behind one of a text in hexadecimal. */
+static const char *next_byte(const char *hex)
+{
+    return hex + (hex[2] == ' ' ? 3 : 2);
+}
+
 /* Puts a container, in hexadecimal, behind the lent bytes, as that of the candidate at a position. */
 static void put_container(call_t *call, size_t position, const char *hex)
 {
     gardhnosk_candidate *candidate = &call->candidates.at[position];
     candidate->start = call->lent_size;
-    for (; *hex != 0; hex += hex[2] == ' ' ? 3 : 2) call->lent[call->lent_size++] = (uint8_t)strtoul(hex, NULL, 16);
+    for (; *hex != 0; hex = next_byte(hex)) call->lent[call->lent_size++] = (uint8_t)strtoul(hex, NULL, 16);
     candidate->size = call->lent_size - candidate->start;
 }
 

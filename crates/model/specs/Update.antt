@@ -31,7 +31,8 @@ valueOr0 Unknown = 0
 
 -- ---- aggregated metrics
 
--- A=0 adds, stopping at the field's maximum; 1 takes the larger, 2 the smaller
+-- A=0 adds, stopping at the field's maximum; 1 takes the larger, 2 the smaller. A throughput or latency that would stop is asked for
+-- nowhere, since leaf answer 36 comes first
 abbrev pub combine : (a most received local : ℕ) → ℕ
 combine zero most x v = min most (x + v)
 combine (suc zero) most x v = max x v

@@ -87,6 +87,15 @@ pub fn hold(trial: &mut Trial) {
     let expected = bytes("02 0C 04 00 80 08 01 02 03 04 AA BB CC DD");
     trial.expect(received, 14, answer.size);
     trial.expect(received, expected, out[..14].to_vec());
+    // and a sum of 4294967295 is passed on
+    let known = Neighbour {
+        throughput: 1,
+        ..known
+    };
+    let received = "02 08 04 00 00 04 FF FF FF FE";
+    let (_, out) = trial.one(OWN, known, received);
+    let expected = bytes("02 08 04 00 00 04 FF FF FF FF");
+    trial.expect(received, expected, out[..10].to_vec());
     // own energy unknown: E and E_E are 0, and P stays
     let own = Own { flags: 0, ..OWN };
     let received = "02 06 02 00 80 02 00 00";

@@ -1,6 +1,7 @@
 //! Leaf answers.
 
 use super::{Trial, BEFORE, NEIGHBOUR, OWN};
+use crate::reference::data::{Neighbour, THROUGHPUT_KNOWN};
 
 const LEAVES: &[(&str, u8)] = &[
     ("02 05 C8 00 00 01 AA", 31),
@@ -23,15 +24,28 @@ const LEAVES: &[(&str, u8)] = &[
 ];
 
 pub fn hold(trial: &mut Trial) {
-    let full = format!("02 FE 07 00 80 FA {}", "00 ".repeat(250));
-    let both = format!("02 FE 07 00 80 F2 {}05 00 00 04 FF FF FF FF", "00 ".repeat(242));
-    let long = [(full.as_str(), 35), (both.as_str(), 36)];
-    for (container, leaf) in LEAVES.iter().copied().chain(long) {
-        let (answer, out) = trial.one(OWN, NEIGHBOUR, container);
-        let given = (answer.verdicts[0], answer.parent, answer.rank);
-        trial.expect(container, (10, 0, 512), given);
-        let given = (answer.leaf, answer.bits, answer.count, answer.size);
-        trial.expect(container, (leaf, 1, 1, 0), given);
-        trial.expect(container, vec![BEFORE; 257], out);
+    for &(container, number) in LEAVES {
+        leaf(trial, NEIGHBOUR, container, number);
     }
+    let full = format!("02 FE 07 00 80 FA {}", "00 ".repeat(250));
+    leaf(trial, NEIGHBOUR, &full, 35);
+    let zeros = "00 ".repeat(242);
+    let both = format!("02 FE 07 00 80 F2 {zeros}05 00 00 04 FF FF FF FF");
+    leaf(trial, NEIGHBOUR, &both, 36);
+    let known = Neighbour {
+        flags: THROUGHPUT_KNOWN,
+        throughput: 1000,
+        ..NEIGHBOUR
+    };
+    leaf(trial, known, "02 08 04 00 00 04 FF FF FC 18", 36);
+}
+
+/// The answer to a call that ends as a leaf, and the output as it was.
+fn leaf(trial: &mut Trial, neighbour: Neighbour, container: &str, number: u8) {
+    let (answer, out) = trial.one(OWN, neighbour, container);
+    let given = (answer.verdicts[0], answer.parent, answer.rank);
+    trial.expect(container, (10, 0, 512), given);
+    let given = (answer.leaf, answer.bits, answer.count, answer.size);
+    trial.expect(container, (number, 1, 1, 0), given);
+    trial.expect(container, vec![BEFORE; 257], out);
 }

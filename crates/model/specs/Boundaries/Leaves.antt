@@ -101,6 +101,7 @@ sums =
     ∷ hop own0 (latencyOf 2) (one 5 0x00 0x00 (0xFF ∷ 0xFF ∷ 0xFF ∷ 0xFE ∷ [])) gives 36
     ∷ hop own0 (latencyOf 0) (one 5 0x00 0x00 (replicate 4 0xFF)) gives 0
     ∷ hop own0 (latencyOf 1) (one 5 0x00 0x00 (replicate 4 0xFF)) gives 36
+    ∷ hop own0 (latencyOf 0xFFFFFFFF) (one 5 0x00 0x00 (replicate 4 0xFF)) gives 36
     ∷ hop own0 (latencyOf 0xFFFFFFFF) (one 5 0x00 0x00 (0x00 ∷ 0x00 ∷ 0x00 ∷ 0x00 ∷ [])) gives 0
     ∷ hop own0 (latencyOf 0xFFFFFFFF) (one 5 0x00 0x00 (0x00 ∷ 0x00 ∷ 0x00 ∷ 0x01 ∷ [])) gives 36
     -- each by its own number of the link, whatever the other is
