@@ -9,6 +9,7 @@ use Rattle.metric.specs.declared.values.Sum.the-variants.{Fits, Over}
 abbrev pub sumIn : (most x v : ℕ) → Sum
 sumIn most x v = cond (leb (x + v) most) (Fits (x + v)) Over
 
+-- whether a sum does not fit
 abbrev pub isOver : Sum → Bool
 isOver (Fits n) = false
 isOver Over = true

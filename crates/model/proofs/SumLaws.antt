@@ -1,11 +1,11 @@
 -- What is passed on of throughput and latency is the whole-number sum.
 use mathlib.Core.Path.{_≡_, refl, sym, _∙_}
-use Prim.Native.Nat.{ℕ, _+_, _/_, _%_}
+use Prim.Native.Nat.{ℕ, _+_}
 use native.Mathlib.Omega.{arith}
 use mathlib.Core.Bool.{Bool, true, false, cond, true≢false}
 use mathlib.Core.List.{List}
 use mathlib.Core.Option.{some}
-use lib.ListN.{length, getElem?}
+use lib.ListN.{length}
 use borrow.Author.Tests.{eq-eqb, ltb-false, eqb-true}
 use Rattle.model.specs.declared.Quantity.{Quantity}
 use Rattle.model.specs.declared.Quantity.the-variants.{Known, Unknown}
@@ -13,7 +13,6 @@ use Rattle.model.specs.declared.Own.{Own}
 use Rattle.model.specs.declared.Neighbour.{Neighbour}
 use Rattle.model.specs.Number.{isSet, knownIf, anyOf, number}
 use Rattle.model.specs.Object.{Object, fieldA, kindOf, Scalar, throughput, latency, scalar, kind, aggregated, role}
-use Rattle.model.specs.Reading.{Reading, wellFormed}
 use Rattle.model.specs.Constraint.{linkValue}
 use Rattle.model.specs.Update.{localValue, noValue, mustFit, overflows, widthOf, mostOf, updateObject, update}
 use Rattle.model.specs.Verdict.{containerOf}

@@ -1,5 +1,4 @@
 use mathlib.Core.Path.{sym, _∙_}
-use native.Mathlib.Omega.{arith}
 use borrow.Author.Needs.{needs}
 use Rattle.metric.proofs.LeafLaws.{beyond-other, beyond-known, beyond-unknown}
 use Rattle.metric.proofs.leaves.is_beyond.Statement.{statement}
