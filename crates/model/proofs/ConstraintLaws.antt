@@ -5,7 +5,8 @@ use mathlib.Core.Bool.{Bool, true, false, cond, not, _&&_, _||_, true≢false, f
 use mathlib.Core.List.{List}
 use lib.ListN.{getD}
 use lib.Dec.{leb, ltb, eqb}
-use borrow.Author.Tests.{eq-eqb, ne-eqb}
+use native.Mathlib.Omega.{arith}
+use borrow.Author.Tests.{eqb-true, eq-eqb, ne-eqb}
 use Rattle.model.specs.declared.Quantity.{Quantity}
 use Rattle.model.specs.declared.Quantity.the-variants.{Known, Unknown}
 use Rattle.model.specs.declared.Neighbour.{Neighbour}
@@ -25,6 +26,14 @@ satisfies-known f b v = go (isSet b)
     go : (t : Bool) → t && f v ≡ satisfies f (cond t (Known v) Unknown)
     go true = refl
     go false = refl
+
+-- if it is known, its bit is 1, and it is the number
+pub known-is : (b x v : ℕ) → knownIf b x ≡ Known v → (b ≡ 1) × (x ≡ v)
+known-is b x v e = go (isSet b) refl e
+  where
+    go : (t : Bool) → isSet b ≡ t → cond t (Known x) Unknown ≡ Known v → (b ≡ 1) × (x ≡ v)
+    go true t e = (eqb-true b 1 t, cc)
+    go false t e = absurd (let z : _≡_ {A = ℕ} 0 1 = cc in omega arith)
 
 -- it is not known, or satisfies a test
 unknown-or : (x : Bool) (f : ℕ → Bool) (b v : ℕ) → x || not (isSet b) || f v ≡ x || isUnknown (knownIf b v) || satisfies f (knownIf b v)

@@ -2,15 +2,15 @@
 use mathlib.Core.Path.{_≡_, refl, _∙_}
 use Prim.Native.Nat.{ℕ, zero, suc, _+_, _*_, _/_, _%_, _^_, _≤_, _<_, min}
 use native.Mathlib.Omega.{arith}
-use mathlib.Core.Bool.{Bool, true, false, cond}
+use mathlib.Core.Bool.{true}
 use mathlib.Core.List.{List, [], _∷_}
 use mathlib.Core.Option.{some}
 use lib.ListN.{length, getD, getElem?}
 use borrow.Author.Tests.{eq-eqb, le-leb}
-use Rattle.model.specs.declared.Quantity.the-variants.{Known, Unknown}
+use Rattle.model.specs.declared.Quantity.the-variants.{Known}
 use Rattle.model.specs.declared.Own.{Own}
 use Rattle.model.specs.declared.Neighbour.{Neighbour}
-use Rattle.model.specs.Number.{isSet, number, firstOf}
+use Rattle.model.specs.Number.{knownIf, number, firstOf}
 use Rattle.model.specs.Object.{Object, standings, fieldA, kindOf, nsa, ne, hp, Scalar, throughput, latency, etx, node, scalar, known, kind, aggregated, role}
 use Rattle.model.specs.Table.{row}
 use Rattle.model.specs.Reading.{fixedShape, objectBar}
@@ -20,6 +20,7 @@ use Rattle.model.specs.ReadBack.{ReadsBack, Aggregates, NoSumWraps, Coun
 use Rattle.model.specs.RoundTrip.{Bytes}
 use Rattle.model.proofs.RoundTrip.{number-bigEndian, number-below}
 use Rattle.model.proofs.TypeLaws.{known-types}
+use Rattle.model.proofs.ConstraintLaws.{known-is}
 use Rattle.model.proofs.ReadingLaws.{reading-objects, reading-container}
 use Rattle.model.proofs.TabledLaws.{at-tabled, base-of, whole-of}
 use Rattle.model.proofs.ByteLaws.{combine-within, body-bytes, data-bytes}
@@ -126,16 +127,15 @@ node-known : (t : ℕ) → 1 ≤ t → t ≤ 3 → known (kindOf t) ≡ true
 node-known t h l = known-types t ∙ rw (le-leb 1 t h, le-leb t 7 (omega arith))
 
 -- a known value is the number behind its bit
-within : (b : Bool) (x v most : ℕ) → x ≤ most → cond b (Known x) Unknown ≡ Known v → v ≤ most
-within true x v most h e = let q : x ≡ v = cc in omega arith
-within false x v most h e = absurd (let z : _≡_ {A = ℕ} 0 1 = cc in omega arith)
+within : (b x v most : ℕ) → x ≤ most → knownIf b x ≡ Known v → v ≤ most
+within b x v most h e = let (k, q) = known-is b x v e in omega arith
 
 -- a link's value within its type fits the field
 link-fits : (s : Scalar) (c : Neighbour) (v : ℕ) → LinkWithin c → linkValue c s ≡ Known v → v ≤ mostOf s
 unfolding linkValue
-link-fits throughput c v w e = within (isSet (c .flags / 32 % 2)) (c .throughput) v 4294967295 (w .throughput) e
-link-fits latency c v w e = within (isSet (c .flags / 16 % 2)) (c .latency) v 4294967295 (w .latency) e
-link-fits etx c v w e = within (isSet (c .flags / 8 % 2)) (c .etx) v 65535 (w .etx) e
+link-fits throughput c v w e = within (c .flags / 32 % 2) (c .throughput) v 4294967295 (w .throughput) e
+link-fits latency c v w e = within (c .flags / 16 % 2) (c .latency) v 4294967295 (w .latency) e
+link-fits etx c v w e = within (c .flags / 8 % 2) (c .etx) v 65535 (w .etx) e
 
 -- bytes as many as the field has hold a number that fits it
 body-fits : (s : Scalar) (b : List ℕ) → Bytes b → length b ≡ widthOf s → number b ≤ mostOf s

@@ -1,17 +1,15 @@
 -- What is passed on of throughput and latency is the whole-number sum.
 use mathlib.Core.Path.{_≡_, refl, sym, _∙_}
 use Prim.Native.Nat.{ℕ, _+_}
-use native.Mathlib.Omega.{arith}
-use mathlib.Core.Bool.{Bool, true, false, cond, true≢false}
-use mathlib.Core.List.{List}
+use mathlib.Core.Bool.{true, false, true≢false}
 use mathlib.Core.Option.{some}
 use lib.ListN.{length}
-use borrow.Author.Tests.{eq-eqb, ltb-false, eqb-true}
+use borrow.Author.Tests.{eq-eqb, ltb-false}
 use Rattle.model.specs.declared.Quantity.{Quantity}
 use Rattle.model.specs.declared.Quantity.the-variants.{Known, Unknown}
 use Rattle.model.specs.declared.Own.{Own}
 use Rattle.model.specs.declared.Neighbour.{Neighbour}
-use Rattle.model.specs.Number.{isSet, knownIf, anyOf, number}
+use Rattle.model.specs.Number.{knownIf, anyOf, number}
 use Rattle.model.specs.Object.{Object, fieldA, kindOf, Scalar, throughput, latency, scalar, kind, aggregated, role}
 use Rattle.model.specs.Constraint.{linkValue}
 use Rattle.model.specs.Update.{localValue, noValue, mustFit, overflows, widthOf, mostOf, updateObject, update}
@@ -21,6 +19,7 @@ use Rattle.model.specs.Exact.{leafTests}
 use Rattle.model.specs.ReadBack.{SummedWhole, SumsWhole}
 use Rattle.model.proofs.BoolLaws.{neither}
 use Rattle.model.proofs.ListLaws.{at-map, none-at}
+use Rattle.model.proofs.ConstraintLaws.{known-is}
 use Rattle.model.proofs.Readings.{same-objects}
 use Rattle.model.proofs.ReadBack.{reads-back, no-sum-wraps, aggregates-whole}
 use Rattle.model.proofs.Exact.{leaves}
@@ -29,11 +28,7 @@ use Rattle.model.proofs.Exact.{leaves}
 
 -- a sum with a value that is known where its bit is 1
 known-sum : (b x v y n : ℕ) → knownIf b x ≡ Known v → n ≡ y + v → (b ≡ 1) × (n ≡ y + x)
-known-sum b x v y n e s = go (isSet b) refl e
-  where
-    go : (t : Bool) → isSet b ≡ t → cond t (Known x) Unknown ≡ Known v → (b ≡ 1) × (n ≡ y + x)
-    go true t e = let q : x ≡ v = cc in (eqb-true b 1 t, rw q s)
-    go false t e = absurd (let z : _≡_ {A = ℕ} 0 1 = cc in omega arith)
+known-sum b x v y n e s = let (k, q) = known-is b x v e in (k, rw q s)
 
 module _ (own : Own) (c : Neighbour) (o : Object) (noLeaf : anyOf (λ t. t o) (leafTests own c) ≡ false) (r : role o ≡ aggregated) (a : fieldA o ≡ 0) where
   -- the link's value is known, and the number passed on is its sum with the one received
