@@ -98,7 +98,7 @@ fn constraints() -> Vec<u8> {
     data.object(2, CONSTRAINT, 0, &[0x0B, 50]); // on battery, with more than 50 %
     data.object(3, CONSTRAINT, 0, &[0, 8]); // less than 8 hops
     data.object(5, CONSTRAINT, 0, &[0, 0, 0x10, 0]); // at most 4096 microseconds
-    data.object(7, CONSTRAINT, 0, &[1, 0]); // an ETX of 2 at most
+    data.object(7, CONSTRAINT, 0, &[4, 0]); // an ETX of 8 at most
     data.object(3, 0, 0, &[0, 3]);
     data.object(5, 0, 0, &[0, 0, 1, 0]);
     data.object(7, 0, 0, &[1, 0xC9]);

@@ -22,6 +22,7 @@ use Rattle.listing.specs.declared.Listed.{Listed}
 use Rattle.listing.specs.declared.Listed.the-variants.{Text, ShortOutput}
 use Rattle.wire.specs.Reading.{readingOf}
 use Rattle.listing.specs.Listed.{textRoom, listed, listedIn, TextFits, ListingOfFront}
+use Rattle.wire.specs.declared.container.Told.{Told}
 use Rattle.wire.specs.Put.{Put}
 use Rattle.listing.proofs.PutLaws.{digits}
 use Rattle.listing.proofs.LineLaws.{lines-room}
@@ -49,19 +50,19 @@ pub text-fits : TextFits
 text-fits bs h = text-short bs (byte-one bs h)
 
 -- the objects of a container that code reads as well-formed
-well-formed : (bs : List ℕ) {count hops : ℕ} {k : Bool} → readingOf (reading bs) ≡ WellFormed count k hops → (os : List Object) × (reading bs ≡ model.wellFormed os)
-well-formed bs {count} {hops} {k} e = go (reading bs) refl e
+well-formed : (bs : List ℕ) {count : ℕ} {k : Bool} {told : Told} → readingOf (reading bs) ≡ WellFormed count k told → (os : List Object) × (reading bs ≡ model.wellFormed os)
+well-formed bs {count} {k} {told} e = go (reading bs) refl e
   where
-    go : (m : model.Reading) → reading bs ≡ m → readingOf m ≡ WellFormed count k hops → (os : List Object) × (reading bs ≡ model.wellFormed os)
+    go : (m : model.Reading) → reading bs ≡ m → readingOf m ≡ WellFormed count k told → (os : List Object) × (reading bs ≡ model.wellFormed os)
     go (model.refused n p) f e = absurd (let z : _≡_ {A = ℕ} 0 1 = cc in omega arith)
     go (model.wellFormed os) f e = (os, f)
 
 -- it has 257 bytes at most
-pub well-short : (bs : List ℕ) {count hops : ℕ} {k : Bool} → readingOf (reading bs) ≡ WellFormed count k hops → getD bs 1 0 ≤ 255 → length bs ≤ 257
+pub well-short : (bs : List ℕ) {count : ℕ} {k : Bool} {told : Told} → readingOf (reading bs) ≡ WellFormed count k told → getD bs 1 0 ≤ 255 → length bs ≤ 257
 well-short bs e l = let (os, r) = well-formed bs e in data-short bs os r l .1
 
 -- its text is the lines of its objects
-pub well-text : (bs : List ℕ) {output left : List ℕ} {count hops r : ℕ} {k : Bool} → readingOf (reading bs) ≡ WellFormed count k hops
+pub well-text : (bs : List ℕ) {output left : List ℕ} {count r : ℕ} {k : Bool} {told : Told} → readingOf (reading bs) ≡ WellFormed count k told
     → ((os : List Object) → dataObjects bs ≡ some os → Put output 0 (objectLines os) r left) → Put output 0 (listing bs) r left
 unfolding listing
 well-text bs e q = let (os, r) = well-formed bs e in rw r (q os (reading-objects bs os r .objects))

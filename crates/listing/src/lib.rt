@@ -118,7 +118,7 @@ pub fn list(container: &[u8], out: &mut [u8]) -> Listed
         Reading::WellFormed {
             count: _,
             mandatory: _,
-            hops: _,
+            told: _,
         } => Listed::Text(put_lines(container, out)),
     }
 }

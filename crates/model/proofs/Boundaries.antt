@@ -19,6 +19,7 @@ boundaries = record {
   bar18 = refl;
   bar19Nodes = refl;
   bar19Links = refl;
+  bar19Paths = refl;
   optional = refl;
   rankBars = refl;
   byOperation = refl;

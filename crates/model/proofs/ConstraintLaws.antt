@@ -1,6 +1,6 @@
 -- When a constraint is met, by the type and the bits that code tests.
 use mathlib.Core.Path.{_≡_, refl}
-use Prim.Native.Nat.{ℕ, zero, suc, _/_, _%_}
+use Prim.Native.Nat.{ℕ, zero, suc, _+_, _/_, _%_}
 use mathlib.Core.Bool.{Bool, true, false, cond, not, _&&_, _||_, true≢false, false≢true}
 use mathlib.Core.List.{List}
 use lib.ListN.{getD}
@@ -47,18 +47,19 @@ unknown-or x f b v = go x (isSet b)
 -- ---- the tests that code makes
 
 -- the link's value
-module _ (c : Neighbour) (n : ℕ) where
-  pub by-throughput : isSet (c .flags / 32 % 2) && leb n (c .throughput) ≡ satisfies (λ v. leb n v) (linkValue c throughput)
-  unfolding linkValue
-  by-throughput = satisfies-known (λ v. leb n v) (c .flags / 32 % 2) (c .throughput)
+pub by-throughput : (c : Neighbour) (n : ℕ) → isSet (c .flags / 32 % 2) && leb n (c .throughput) ≡ satisfies (λ v. leb n v) (linkValue c throughput)
+unfolding linkValue
+by-throughput c n = satisfies-known (λ v. leb n v) (c .flags / 32 % 2) (c .throughput)
 
-  pub by-latency : isSet (c .flags / 16 % 2) && leb (c .latency) n ≡ satisfies (λ v. leb v n) (linkValue c latency)
+-- the link's value and one received before it
+module _ (c : Neighbour) (x n : ℕ) where
+  pub by-latency : isSet (c .flags / 16 % 2) && leb (x + c .latency) n ≡ satisfies (λ v. leb (x + v) n) (linkValue c latency)
   unfolding linkValue
-  by-latency = satisfies-known (λ v. leb v n) (c .flags / 16 % 2) (c .latency)
+  by-latency = satisfies-known (λ v. leb (x + v) n) (c .flags / 16 % 2) (c .latency)
 
-  pub by-etx : isSet (c .flags / 8 % 2) && leb (c .etx) n ≡ satisfies (λ v. leb v n) (linkValue c etx)
+  pub by-etx : isSet (c .flags / 8 % 2) && leb (x + c .etx) n ≡ satisfies (λ v. leb (x + v) n) (linkValue c etx)
   unfolding linkValue
-  by-etx = satisfies-known (λ v. leb v n) (c .flags / 8 % 2) (c .etx)
+  by-etx = satisfies-known (λ v. leb (x + v) n) (c .flags / 8 % 2) (c .etx)
 
 -- NE by I
 module _ (c : Neighbour) (f limit : ℕ) where
@@ -92,7 +93,7 @@ module _ (c : Neighbour) (s : Summary) (t : ℕ) (b : List ℕ) where
   unfolding met kindOf
   met-throughput n e q = rw (e, q)
 
-  pub met-latency : (n : ℕ) → t ≡ 5 → n ≡ number b → satisfies (λ v. leb v n) (linkValue c latency) ≡ met c s (kindOf t) b
+  pub met-latency : (n : ℕ) → t ≡ 5 → n ≡ number b → satisfies (λ v. leb (s .latency + v) n) (linkValue c latency) ≡ met c s (kindOf t) b
   unfolding met kindOf
   met-latency n e q = rw (e, q)
 
@@ -100,7 +101,7 @@ module _ (c : Neighbour) (s : Summary) (t : ℕ) (b : List ℕ) where
   unfolding met kindOf
   met-lql e = rw e
 
-  pub met-etx : (n : ℕ) → t ≡ 7 → n ≡ number b → satisfies (λ v. leb v n) (linkValue c etx) ≡ met c s (kindOf t) b
+  pub met-etx : (n : ℕ) → t ≡ 7 → n ≡ number b → satisfies (λ v. leb (s .etx + v) n) (linkValue c etx) ≡ met c s (kindOf t) b
   unfolding met kindOf
   met-etx n e q = rw (e, q)
 

@@ -1,22 +1,24 @@
 -- The cut against bars 15 to 19.
-use mathlib.Core.Path.{_≡_, refl, _∙_}
+use mathlib.Core.Path.{_≡_, refl, sym, _∙_}
 use Prim.Native.Nat.{ℕ}
-use mathlib.Core.Bool.{Bool, true, false, cond, not, _&&_, _||_, and-false}
+use mathlib.Core.Bool.{Bool, true, false, cond, not, _&&_, _||_, and-false, true≢false}
 use mathlib.Core.List.{List, [], _∷_, _++_, append-nil}
-use native.Mathlib.Omega.{arith}
 use lib.ListN.{length, take, drop, getD}
 use lib.Dec.{leb, eqb}
 use borrow.Author.Tests.{eqb-true}
+use Rattle.model.specs.declared.Quantity.the-variants.{Known, Unknown}
 use Rattle.model.specs.declared.Summary.{Summary}
 use Rattle.model.specs.declared.Neighbour.{Neighbour}
-use Rattle.model.specs.Number.{anyOf, _when_, firstCase, firstOf}
-use Rattle.model.specs.Object.{Object, bitC, standings, Kind, unknown, lql, node, scalar, nsa, ne, hp, throughput, latency, etx, known, kind, Role, constraint, recorded, aggregated, role}
+use Rattle.model.specs.Number.{number, anyOf, _when_, firstCase, firstOf}
+use Rattle.model.specs.Object.{Object, bitC, standings, Kind, unknown, lql, node, scalar, nsa, ne, hp, Scalar, throughput, latency, etx, typeOf, kindOf, known, kind, Role, constraint, recorded, aggregated, role}
 use Rattle.model.specs.Table.{row}
-use Rattle.model.specs.Reading.{tlvsUpTo, tlvsFit, fixedShape, shaped, cannotBe, sameUse, objectBar}
-use Rattle.model.specs.Constraint.{hopCount, summary, met, mandatory, unknownMandatory, constraintBar}
-use Rattle.model.specs.Cut.{cutBody, cutObject, keepIf, cut}
+use Rattle.model.specs.Reading.{tlvsUpTo, tlvsFit, fixedShape, shaped, sameUse, objectBar}
+use Rattle.model.specs.Constraint.{fromFirst, countsHops, addsUp, pathValue, summary, met, mandatory, unknownMandatory, constraintBar}
+use Rattle.model.specs.Cut.{mayHaveTlvs, cutBody, cutObject, keepIf, cut}
 use Rattle.model.proofs.BoolLaws.{neither, or-left, or-middle}
 use Rattle.model.proofs.TypeLaws.{tlv-types}
+use Rattle.model.proofs.TabledLaws.{bar-free}
+use Rattle.model.proofs.SummaryLaws.{hops-use, adds-use}
 use Rattle.model.proofs.NumberLaws.{first-zero, isGiven, given-first, given-none}
 
 -- ---- the cut of a body and of a list
@@ -99,19 +101,11 @@ earlier-cut o p (e ∷ es) = go (known (kind e)) refl (earlier-cut o p es)
     go true q ih = rw ih
     go false q ih = rw (sameUse-unknown o e p q, ih)
 
--- a known object at which no bar of 15 to 17 stands
-pub no-bar : (m s r : Bool) → firstCase (15 when (not m && not s) ∷ 16 when r ∷ 17 when m ∷ []) ≡ 0 → (m ≡ false) × (s ≡ true) × (r ≡ false)
-no-bar true s true e = absurd (omega arith)
-no-bar true s false e = absurd (omega arith)
-no-bar false false r e = absurd (omega arith)
-no-bar false true true e = absurd (omega arith)
-no-bar false true false e = (refl, refl, refl)
-
 objectBar-cut : (es : List Object) (o : Object) → known (kind o) ≡ true → objectBar (record { earlier = es; object = o }) ≡ 0
     → objectBar (record { earlier = cut es; object = cutObject o }) ≡ 0
 unfolding objectBar
 objectBar-cut es o p e =
-    let (m, s, r) = no-bar (cannotBe (role o) (row (kind o))) (shaped (role o) (row (kind o)) (o .body)) (anyOf (sameUse o) es) (rw p at e) in
+    let (m, s, r) = bar-free es o e p in
     rw (← tlv-types (o .type), p, m, shaped-cut (role o) (kind o) (o .body) s, earlier-cut o p es, r)
 
 -- a well-formed container, cut, is well-formed
@@ -151,14 +145,52 @@ unknown-kind lql e = cc
 unknown-kind (node n) e = cc
 unknown-kind (scalar s) e = cc
 
-hopCount-cut : (os : List Object) → hopCount (cut os) ≡ hopCount os
-unfolding hopCount cut
-hopCount-cut [] = refl
-hopCount-cut (o ∷ os) = go (known (kind o)) refl (hopCount-cut os)
+-- what the first object with a property tells, where the cut keeps those that have it and what they tell
+fromFirst-cut : {A : Type 0} (d : A) (p : Object → Bool) (f : Object → A) → ((o : Object) → p (cutObject o) ≡ p o) → ((o : Object) → p o ≡ true → f (cutObject o) ≡ f o)
+    → ((o : Object) → p o ≡ true → known (kind o) ≡ true) → (os : List Object) → fromFirst d p f (cut os) ≡ fromFirst d p f os
+unfolding fromFirst cut
+fromFirst-cut d p f same tells stays [] = refl
+fromFirst-cut d p f same tells stays (o ∷ os) = go (known (kind o)) (p o) refl refl (fromFirst-cut d p f same tells stays os)
   where
-    go : (b : Bool) → known (kind o) ≡ b → hopCount (cut os) ≡ hopCount os → hopCount (keepIf b (cutObject o) (cut os)) ≡ hopCount (o ∷ os)
-    go true q ih = rw (cutBody-byte1, ih)
-    go false q ih = rw (unknown-kind (kind o) q, ih)
+    go : (b t : Bool) → known (kind o) ≡ b → p o ≡ t → fromFirst d p f (cut os) ≡ fromFirst d p f os
+        → fromFirst d p f (keepIf b (cutObject o) (cut os)) ≡ cond t (f o) (fromFirst d p f os)
+    go true true k e ih = rw (same o, e, tells o e)
+    go true false k e ih = rw (same o, e, ih)
+    go false true k e ih = absurd (true≢false (sym (stays o e) ∙ k))
+    go false false k e ih = ih
+
+-- an HP metric, and one that adds up, are of known type
+hops-known : (o : Object) → countsHops o ≡ true → known (kind o) ≡ true
+unfolding kindOf
+hops-known o e = rw (hops-use o e .0)
+
+pub adds-known : (s : Scalar) (o : Object) → addsUp s o ≡ true → known (kind o) ≡ true
+unfolding kindOf
+adds-known s o e = rw (adds-use s o e .0) (go s)
+  where
+    go : (s : Scalar) → known (kindOf (typeOf s)) ≡ true
+    go throughput = refl
+    go latency = refl
+    go etx = refl
+
+-- the body of a scalar is whole under the cut
+adds-whole : (s : Scalar) (o : Object) → addsUp s o ≡ true → number (cutObject o .body) ≡ number (o .body)
+adds-whole s o e = rw (adds-use s o e .0) (go s)
+  where
+    go : (s : Scalar) → number (cutBody (role o) (mayHaveTlvs (typeOf s)) (o .body)) ≡ number (o .body)
+    go throughput = rw cutBody-whole
+    go latency = rw cutBody-whole
+    go etx = rw cutBody-whole
+
+pathValue-cut : (s : Scalar) (os : List Object) → pathValue s (cut os) ≡ pathValue s os
+pathValue-cut s = fromFirst-cut 0 (addsUp s) (λ o. number (o .body)) (λ o. refl) (adds-whole s) (adds-known s)
+
+summary-cut : (os : List Object) → summary (cut os) ≡ summary os
+summary-cut os = rw (
+  fromFirst-cut Unknown countsHops (λ o. Known (getD (o .body) 1 0)) (λ o. refl) (λ o e. rw cutBody-byte1) hops-known os,
+  pathValue-cut latency os,
+  pathValue-cut etx os,
+)
 
 -- an unknown object bars exactly if it is a mandatory constraint
 unknown-bars : (m x : Bool) → isGiven (firstCase (18 when (m && true) ∷ 19 when (m && false && x) ∷ [])) ≡ m && true
@@ -206,8 +238,8 @@ bars-same c s (o ∷ os) e = let (h, t) = neither (unknownMandatory o) (anyOf un
 -- the two laws for a whole container
 pub constraintBars-cut : (c : Neighbour) (os : List Object)
     → isGiven (firstOf (constraintBar c (summary os)) os) ≡ isGiven (firstOf (constraintBar c (summary (cut os))) (cut os)) || anyOf unknownMandatory os
-constraintBars-cut c os = rw hopCount-cut (bars-cut c (summary os) os)
+constraintBars-cut c os = rw (summary-cut os) (bars-cut c (summary os) os)
 
 pub constraintBars-same : (c : Neighbour) (os : List Object) → anyOf unknownMandatory os ≡ false
     → firstOf (constraintBar c (summary os)) os ≡ firstOf (constraintBar c (summary (cut os))) (cut os)
-constraintBars-same c os e = rw hopCount-cut (bars-same c (summary os) os e)
+constraintBars-same c os e = rw (summary-cut os) (bars-same c (summary os) os e)

@@ -3,7 +3,7 @@ use mathlib.Core.Path.{_≡_, refl, sym, _∙_}
 use Prim.Native.Nat.{ℕ, zero, suc, _+_, _/_, _%_, _≤_}
 use lib.ListN.{length}
 use lib.Dec.{ltb, eqb}
-use borrow.Author.Tests.{ltb-false, ne-eqb}
+use borrow.Author.Tests.{ltb-false}
 use native.Mathlib.Omega.{arith}
 use mathlib.Core.Bool.{Bool, true, false, _&&_, _||_, and-assoc, and-false, or-false, false≢true, true≢false}
 use mathlib.Core.List.{List, [], _∷_, map}
@@ -11,13 +11,13 @@ use mathlib.Core.Logic.{_↔_}
 use Rattle.model.specs.declared.Own.{Own}
 use Rattle.model.specs.declared.Neighbour.{Neighbour}
 use Rattle.model.specs.Number.{isSet, number, anyOf, _when_, firstCase, first, firstOf, indexOf}
-use Rattle.model.specs.Object.{Object, fieldA, join, kindOf, roleBits, roleOf, isAggregated}
+use Rattle.model.specs.Object.{Object, fieldA, join, kindOf, roleOf}
 use Rattle.model.specs.Constraint.{linkValue}
 use Rattle.model.specs.Update.{unknownAggregated, notAllowed, noValue, fullCount, isBeyond, overflows, leafCases, objectLeaf, tooLong, leafAnswer, update}
 use Rattle.model.specs.Conditions.{someHas}
 use Rattle.model.specs.Exact.{FirstToHold, leafTests, LeafAt, LeafExact, OverflowTypes}
 use Rattle.model.proofs.BoolLaws.{neither}
-use Rattle.model.proofs.TypeLaws.{by-type}
+use Rattle.model.proofs.TypeLaws.{aggregated-bits, by-type}
 use Rattle.model.proofs.ConstraintLaws.{satisfies-known}
 use Rattle.model.proofs.NumberLaws.{exact, exact-none, isGiven, given-case, firstOf-all, given-firstOf, first-with}
 
@@ -123,11 +123,6 @@ fits own c os e =
     ltb-false 255 (length (join (update own c os))) (neither (tooLong own c os) false b .0)
 
 -- ---- leaf answer 36 by numbers
-
-aggregated-bits : (c r : ℕ) → isAggregated (roleBits c r) ≡ eqb c 0 && eqb r 0
-aggregated-bits zero zero = refl
-aggregated-bits zero (suc r) = sym (ne-eqb (suc r) 0 (λ e. omega arith))
-aggregated-bits (suc c) r = rw (ne-eqb (suc c) 0 (λ e. omega arith))
 
 beyond-types : (c : Neighbour) (b : List ℕ) (t : ℕ) → isBeyond c (kindOf t) b
     ≡ eqb (length b) 4 && (eqb t 4 && isSet (c .flags / 32 % 2) && ltb 4294967295 (number b + c .throughput)

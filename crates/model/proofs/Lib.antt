@@ -15,6 +15,7 @@ pub mod Selection
 pub mod OutgoingLaws
 pub mod Exact
 pub mod Untouched
+pub mod SummaryLaws
 pub mod CutLaws
 pub mod ReadingLaws
 pub mod UpdateLaws
@@ -38,3 +39,4 @@ pub mod ByteLaws
 pub mod TabledLaws
 pub mod ConstraintLaws
 pub mod RankLaws
+pub mod PathLaws

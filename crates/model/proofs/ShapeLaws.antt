@@ -14,13 +14,13 @@ use Rattle.model.specs.declared.Neighbour.{Neighbour}
 use Rattle.model.specs.Number.{anyOf, bigEndian, firstOf}
 use Rattle.model.specs.Object.{Object, bitC, fieldA, standings, Kind, unknown, lql, node, scalar, nsa, ne, hp, throughput, latency, etx, known, kind, Role, constraint, recorded, aggregated, roleBits, roleOf, role}
 use Rattle.model.specs.Table.{row}
-use Rattle.model.specs.Reading.{tlvsFit, shaped, cannotBe, sameUse, objectBar}
+use Rattle.model.specs.Reading.{tlvsFit, shaped, sameUse, objectBar}
 use Rattle.model.specs.Constraint.{energyIn, linkValue}
 use Rattle.model.specs.Update.{localValue, valueOr0, combine1, onTwo, clear0, clear1, aggregatedBody, constraintBody, subObject, clearEach, ownEnergy, countLevel, countedBody, recordedBody, addsNothing, nextBody, nextFlags, updateObject, update}
 use Rattle.model.proofs.BoolLaws.{both}
 use Rattle.model.proofs.NumberLaws.{first-zero}
 use Rattle.model.proofs.RoundTrip.{length-bigEndian}
-use Rattle.model.proofs.CutLaws.{no-bar}
+use Rattle.model.proofs.TabledLaws.{bar-free}
 use Rattle.model.proofs.UpdateLaws.{role-update}
 use Rattle.model.proofs.PlaceLaws.{drop-onTwo}
 
@@ -165,7 +165,7 @@ objectBar-update own c es o e = go (known (kind o)) refl e
   where
     go : (b : Bool) → known (kind o) ≡ b → objectBar (record { earlier = es; object = o }) ≡ 0 → objectBar (record { earlier = update own c es; object = updateObject own c o }) ≡ 0
     go true p e =
-        let (m, s, r) = no-bar (cannotBe (role o) (row (kind o))) (shaped (role o) (row (kind o)) (o .body)) (anyOf (sameUse o) es) (rw p at e) in
+        let (m, s, r) = bar-free es o e p in
         rw (p, role-update own c o, m, next-shaped own c (kind o) (role o) (fieldA o) (o .body) s, earlier-update own c o es, r)
     go false p e = rw p
 

@@ -2,46 +2,52 @@
 use mathlib.Core.Path.{_≡_, refl, sym, ap, _∙_}
 use Prim.Native.Nat.{ℕ, _+_, _*_, _≤_}
 use native.Mathlib.Omega.{arith}
-use mathlib.Core.Bool.{Bool, true, false, cond, not, _&&_, false≢true}
-use mathlib.Core.List.{List, [], _∷_, _++_}
+use mathlib.Core.Bool.{Bool, true, false, cond, not, _&&_}
+use mathlib.Core.List.{List, [], _∷_, _++_, append-nil, append-assoc}
 use mathlib.Core.Option.{some}
 use lib.ListN.{length, drop, getD, getElem?}
 use lib.Dec.{leb, eqb}
 use borrow.Author.Tests.{leb-true, eqb-true}
-use Rattle.model.specs.Number.{anyOf, number, firstOf}
-use Rattle.model.specs.Object.{Object, Standing, standings, kindOf, kind, known, role}
+use Rattle.model.specs.Number.{anyOf, number, _when_, firstCase, firstOf}
+use Rattle.model.specs.Object.{Object, standings, kindOf, kind, known, role}
 use Rattle.model.specs.Table.{Row, row}
 use Rattle.model.specs.Reading.{tlvsFit, fixedShape, shaped, cannotBe, sameUse, objectBar}
 use Rattle.model.proofs.BoolLaws.{both}
 use Rattle.model.proofs.ListLaws.{at-split}
 use Rattle.model.proofs.NumberLaws.{first-zero}
 
--- a known type, misused or not, shaped or not, seen before or not
-by-tests : (k u f r : Bool) → _≡_ {A = ℕ} (cond (k && not (k && u) && not f) 15 (cond (k && r) 16 (cond (k && u) 17 0))) 0 → k ≡ true → f ≡ true
-by-tests false u f r e h = absurd (false≢true h)
-by-tests true false true r e h = refl
-by-tests true false false r e h = absurd (omega arith)
-by-tests true true f true e h = absurd (omega arith)
-by-tests true true f false e h = absurd (omega arith)
+-- a known object at which no bar of 15 to 17 stands
+pub no-bar : (m s r : Bool) → firstCase (15 when (not m && not s) ∷ 16 when r ∷ 17 when m ∷ []) ≡ 0 → (m ≡ false) × (s ≡ true) × (r ≡ false)
+no-bar true s true e = absurd (omega arith)
+no-bar true s false e = absurd (omega arith)
+no-bar false false r e = absurd (omega arith)
+no-bar false true true e = absurd (omega arith)
+no-bar false true false e = (refl, refl, refl)
 
--- an object of known type without a bar has a body as tabled
-bar-tabled : (s : Standing) → objectBar s ≡ 0 → known (kind (s .object)) ≡ true → shaped (role (s .object)) (row (kind (s .object))) (s .object .body) ≡ true
+-- an object of known type without a bar is what its type can be, its body is as tabled, and its use was not seen
+pub bar-free : (es : List Object) (o : Object) → objectBar (record { earlier = es; object = o }) ≡ 0 → known (kind o) ≡ true
+    → (cannotBe (role o) (row (kind o)) ≡ false) × (shaped (role o) (row (kind o)) (o .body) ≡ true) × (anyOf (sameUse o) es ≡ false)
 unfolding objectBar
-bar-tabled s e k = by-tests (known (kind (s .object))) (cannotBe (role (s .object)) (row (kind (s .object)))) (shaped (role (s .object)) (row (kind (s .object))) (s .object .body)) (anyOf (sameUse (s .object)) (s .earlier)) e k
+bar-free es o e k = no-bar (cannotBe (role o) (row (kind o))) (shaped (role o) (row (kind o)) (o .body)) (anyOf (sameUse o) es) (rw k at e)
 
--- so has any object among others without one
-pub among-tabled : (ps es : List Object) (o : Object) (rest : List Object) → firstOf objectBar (standings ps (es ++ (o ∷ rest))) ≡ 0
-    → known (kind o) ≡ true → shaped (role o) (row (kind o)) (o .body) ≡ true
+-- an object among others without a bar has none
+pub among-free : (ps es : List Object) (o : Object) (rest : List Object) → firstOf objectBar (standings ps (es ++ (o ∷ rest))) ≡ 0
+    → objectBar (record { earlier = ps ++ es; object = o }) ≡ 0
 unfolding firstOf standings
-among-tabled ps [] o rest z k = bar-tabled (record { earlier = ps; object = o }) (first-zero (objectBar (record { earlier = ps; object = o })) _ z .0) k
-among-tabled ps (e ∷ es) o rest z k = among-tabled (ps ++ (e ∷ [])) es o rest (first-zero (objectBar (record { earlier = ps; object = e })) _ z .1) k
+among-free ps [] o rest z = rw (append-nil ps) (first-zero (objectBar (record { earlier = ps; object = o })) _ z .0)
+among-free ps (e ∷ es) o rest z = rw (append-assoc ps (e ∷ []) es) at (among-free (ps ++ (e ∷ [])) es o rest (first-zero (objectBar (record { earlier = ps; object = e })) _ z .1))
+
+-- its body is as tabled
+pub among-tabled : (es : List Object) (o : Object) (rest : List Object) → firstOf objectBar (standings [] (es ++ (o ∷ rest))) ≡ 0
+    → known (kind o) ≡ true → shaped (role o) (row (kind o)) (o .body) ≡ true
+among-tabled es o rest z k = bar-free es o (among-free [] es o rest z) k .1
 
 -- and the one at an index
 pub at-tabled : (os : List Object) (i : ℕ) (o : Object) → firstOf objectBar (standings [] os) ≡ 0 → getElem? os i ≡ some o
     → known (kind o) ≡ true → shaped (role o) (row (kind o)) (o .body) ≡ true
 at-tabled os i o z e k =
     let (es, rest, q) = at-split os i o e in
-    among-tabled [] es o rest (ap (λ l. firstOf objectBar (standings [] l)) (sym q) ∙ z) k
+    among-tabled es o rest (ap (λ l. firstOf objectBar (standings [] l)) (sym q) ∙ z) k
 
 -- ---- the bytes of a constraint's or an aggregated metric's body
 

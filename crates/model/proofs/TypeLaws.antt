@@ -7,7 +7,7 @@ use lib.ListN.{List·getD-eq-default}
 use lib.Dec.{leb, ltb, eqb}
 use borrow.Author.Tests.{lt-leb, eq-eqb, ne-eqb, ltb-true, ltb-false}
 use Rattle.model.specs.Number.{isSet}
-use Rattle.model.specs.Object.{Object, isConstraint, isHp, Kind, unknown, lql, node, scalar, nsa, ne, hp, throughput, latency, etx, kinds, kindOf, known, roleBits, roleOf}
+use Rattle.model.specs.Object.{Object, isConstraint, isAggregated, isHp, Kind, unknown, lql, node, scalar, nsa, ne, hp, throughput, latency, etx, kinds, kindOf, known, roleBits, roleOf}
 use Rattle.model.specs.Table.{row}
 use Rattle.model.specs.Reading.{cannotBe}
 use Rattle.model.specs.Constraint.{unknownMandatory}
@@ -109,7 +109,14 @@ misused-types es o = misused-at (o .type) (o .flags / 2 % 2) (o .mode / 128 % 2)
 
 -- ---- an unknown mandatory constraint by numbers
 
-constraint-bit : (c r : ℕ) → c < 2 → isConstraint (roleBits c r) ≡ eqb c 1
+-- a metric with R=0 has both bits 0
+pub aggregated-bits : (c r : ℕ) → isAggregated (roleBits c r) ≡ eqb c 0 && eqb r 0
+aggregated-bits zero zero = refl
+aggregated-bits zero (suc r) = sym (ne-eqb (suc r) 0 (λ e. omega arith))
+aggregated-bits (suc c) r = rw (ne-eqb (suc c) 0 (λ e. omega arith))
+
+-- a constraint has C=1
+pub constraint-bit : (c r : ℕ) → c < 2 → isConstraint (roleBits c r) ≡ eqb c 1
 constraint-bit zero zero h = refl
 constraint-bit zero (suc r) h = refl
 constraint-bit (suc c) r h = sym (eq-eqb (suc c) 1 (omega arith))

@@ -19,7 +19,7 @@ use Rattle.model.specs.Samples.{Holds, verdictOf, passedBy, outcomeOf}
 use Refusals.{refusals, refusedCalls, sizedRefusal, sizedOutcome}
 use Readings.{numbers, parts, frames, ends}
 use Shapes.{lengths, shapeVerdicts, tlvs, tlvVerdicts, uses}
-use Constraints.{unknowns, nodes, links, wishes}
+use Constraints.{unknowns, nodes, links, paths, wishes}
 use Ranks.{ranks}
 use Leaves.{leaves, leafGiven, operations, leafByA, sums, long, leafCalls}
 use Aggregates.{linkSums, nodeSums}
@@ -50,6 +50,7 @@ pub record Boundaries : Type 0 where
   pub bar18 : Holds verdictOf unknowns
   pub bar19Nodes : Holds verdictOf nodes
   pub bar19Links : Holds verdictOf links
+  pub bar19Paths : Holds verdictOf paths
   pub optional : Holds verdictOf wishes
   -- bars 20 and 21
   pub rankBars : Holds verdictOf ranks

@@ -1,5 +1,5 @@
 -- Bars 18 and 19: the constraints that a candidate does not meet.
-use Prim.Native.Nat.{ℕ, _/_, _%_}
+use Prim.Native.Nat.{ℕ, _+_, _/_, _%_}
 use mathlib.Core.Bool.{Bool, false, cond, not, _&&_, _||_}
 use mathlib.Core.List.{List, [], _∷_}
 use lib.ListN.{getD}
@@ -9,7 +9,7 @@ use Rattle.model.specs.declared.Quantity.the-variants.{Known, Unknown}
 use Rattle.model.specs.declared.Summary.{Summary}
 use Rattle.model.specs.declared.Neighbour.{Neighbour}
 use Rattle.model.specs.Number.{isSet, knownIf, satisfies, isUnknown, number, Case, _when_, firstCase}
-use Rattle.model.specs.Object.{Object, bitO, Kind, unknown, lql, node, scalar, nsa, ne, hp, Scalar, throughput, latency, etx, known, kind, isConstraint, isHp, role}
+use Rattle.model.specs.Object.{Object, bitO, fieldA, Kind, unknown, lql, node, scalar, nsa, ne, hp, Scalar, throughput, latency, etx, typeOf, known, kind, isConstraint, isAggregated, isHp, role}
 
 -- ---- what is known of a neighbour
 
@@ -33,14 +33,30 @@ linkValue c etx = knownIf (c .flags / 8 % 2) (c .etx)
 
 -- ---- what a container tells the tests of its constraints
 
--- the count of the HP metric, wherever it stands
-unfoldable pub hopCount : List Object → Quantity
-hopCount [] = Unknown
-hopCount (o ∷ os) = cond (isHp (kind o) && not (isConstraint (role o))) (Known (getD (o .body) 1 0)) (hopCount os)
+-- what the first object with a property tells, wherever it stands; another value where none has it
+unfoldable pub fromFirst : {A : Type 0} → (none : A) → (Object → Bool) → (Object → A) → List Object → A
+fromFirst d p f [] = d
+fromFirst d p f (o ∷ os) = cond (p o) (f o) (fromFirst d p f os)
+
+-- an HP metric
+abbrev pub countsHops : Object → Bool
+countsHops o = isHp (kind o) && not (isConstraint (role o))
+
+-- the count of the HP metric
+abbrev pub hopCount : List Object → Quantity
+hopCount = fromFirst Unknown countsHops (λ o. Known (getD (o .body) 1 0))
+
+-- an aggregated metric of a scalar type that is added up along the path (A=0)
+abbrev pub addsUp : Scalar → Object → Bool
+addsUp s o = eqb (o .type) (typeOf s) && isAggregated (role o) && eqb (fieldA o) 0
+
+-- the received value of such a metric; without one, 0, by which no sum grows
+abbrev pub pathValue : Scalar → List Object → ℕ
+pathValue s = fromFirst 0 (addsUp s) (λ o. number (o .body))
 
 -- what a container tells the tests of its own constraints
 abbrev pub summary : List Object → Summary
-summary os = record { hops = hopCount os }
+summary os = record { hops = hopCount os; latency = pathValue latency os; etx = pathValue etx os }
 
 -- ---- when a constraint is met
 
@@ -68,8 +84,8 @@ met c s (node nsa) b = metNsa (isAggregator (c .flags)) (isOverloaded (c .flags)
 met c s (node ne) b = metNe (c .nodetype) (energyIn (c .flags) (c .energy)) (getD b 0 0) (getD b 1 0)
 met c s (node hp) b = satisfies (λ v. ltb v (getD b 1 0)) (s .hops)
 met c s (scalar throughput) b = satisfies (λ v. leb (number b) v) (linkValue c throughput)
-met c s (scalar latency) b = satisfies (λ v. leb v (number b)) (linkValue c latency)
-met c s (scalar etx) b = satisfies (λ v. leb v (number b)) (linkValue c etx)
+met c s (scalar latency) b = satisfies (λ v. leb (s .latency + v) (number b)) (linkValue c latency)
+met c s (scalar etx) b = satisfies (λ v. leb (s .etx + v) (number b)) (linkValue c etx)
 met c s lql b = leb 1 (c .lql) && leb (c .lql) (getD b 1 0 / 32)
 
 -- ---- bars 18 and 19

@@ -1,6 +1,6 @@
 -- Demand 1: each number is given exactly when its condition holds and none before it in document 01's order does.
 use mathlib.Core.Path.{_≡_}
-use Prim.Native.Nat.{ℕ, _+_, _/_, _%_, _<_}
+use Prim.Native.Nat.{ℕ, _+_, _/_, _%_, _≤_, _<_}
 use mathlib.Core.Bool.{Bool, true, false, _&&_, _||_}
 use mathlib.Core.List.{List, [], _∷_, _++_, map}
 use mathlib.Core.Logic.{_↔_}
@@ -15,7 +15,7 @@ use Rattle.model.specs.declared.Candidate.{Candidate}
 use Rattle.model.specs.declared.Verdict.{Verdict}
 use Rattle.model.specs.declared.Verdict.the-variants.{Unbarred, Barred}
 use Rattle.model.specs.Number.{isSet, anyOf, number}
-use Rattle.model.specs.Object.{Object, bitC, bitR, fieldA, Standing, standings, kindOf, known}
+use Rattle.model.specs.Object.{Object, bitO, bitC, bitR, fieldA, Standing, standings, kindOf, known}
 use Rattle.model.specs.Table.{row}
 use Rattle.model.specs.Cut.{mayHaveTlvs}
 use Rattle.model.specs.Reading.{Reading, refused, wellFormed, reading, noPlace, misframed, runsPast, malformed, repeated, misused}
@@ -190,6 +190,27 @@ TlvTypes = (type : ℕ) → row (kindOf type) .tlvs ≡ mayHaveTlvs type
 abbrev pub MisusedTypes : Type 0
 MisusedTypes = (es : List Object) (o : Object) → misused (record { earlier = es; object = o })
     ≡ eqb (bitC o) 0 && ((eqb (o .type) 1 || eqb (o .type) 3) && eqb (bitR o) 1 || eqb (o .type) 6 && eqb (bitR o) 0)
+
+-- ---- bar 19 by numbers: the limits of a path
+
+-- a metric of a type that is added up along the path: C=0, R=0 and A=0
+abbrev pub isSummed : (type : ℕ) → Object → Bool
+isSummed t o = eqb (o .type) t && eqb (bitC o) 0 && eqb (bitR o) 0 && eqb (fieldA o) 0
+
+-- a mandatory limit of a type among the objects of its container: whether it is not met, where the link's value is known if its bit is 1
+pub record PathLimit (os : List Object) (type bit link limit : ℕ) (isUnmet : Bool) : Type 0 where
+  -- beside such a metric, before or behind it: the value received and the link's are together, in whole numbers, at most the limit
+  pub sum : (i : ℕ) (m : Object) → getElem? os i ≡ some m → isSummed type m ≡ true → bit ≡ 1 → (isUnmet ≡ false) ↔ (number (m .body) + link ≤ limit)
+  -- beside such a metric, but the link's value is not known
+  pub unknown : (i : ℕ) (m : Object) → getElem? os i ≡ some m → isSummed type m ≡ true → (bit ≡ 1 → ⊥) → isUnmet ≡ true
+  -- without one: the link's value is known and at most the limit
+  pub link-alone : anyOf (isSummed type) os ≡ false → (isUnmet ≡ false) ↔ ((bit ≡ 1) × (link ≤ limit))
+
+-- of latency (type 5) and ETX (type 7), in any well-formed container
+abbrev pub PathLimits : Type 0
+PathLimits = (c : Neighbour) (bs : List ℕ) (os : List Object) (l : Object) → reading bs ≡ wellFormed os → bitC l ≡ 1 → bitO l ≡ 0
+    → (l .type ≡ 5 → PathLimit os 5 (c .flags / 16 % 2) (c .latency) (number (l .body)) (unmet c (summary os) l))
+    × (l .type ≡ 7 → PathLimit os 7 (c .flags / 8 % 2) (c .etx) (number (l .body)) (unmet c (summary os) l))
 
 -- ---- leaf answers 31 to 36
 

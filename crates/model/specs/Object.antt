@@ -112,6 +112,12 @@ kinds = unknown ∷ node nsa ∷ node ne ∷ node hp ∷ scalar throughput ∷ s
 unfoldable pub kindOf : (type : ℕ) → Kind
 kindOf t = getD kinds t unknown
 
+-- the type of a scalar
+abbrev pub typeOf : Scalar → ℕ
+typeOf throughput = 4
+typeOf latency = 5
+typeOf etx = 7
+
 -- the kind of an object
 abbrev pub kind : Object → Kind
 kind o = kindOf (o .type)

@@ -60,9 +60,12 @@ pub struct Candidate {
     pub size: usize,
 }
 
-// What a container tells the tests of its own constraints: the count of its HP metric.
+// What a container tells the tests of its own constraints: the count of its HP metric; the latency and the ETX that it received, where a
+// metric adds them up along the path, else 0.
 pub struct Summary {
     pub hops: Quantity,
+    pub latency: u32,
+    pub etx: u16,
 }
 
 // Document 01's verdict: unbarred with the resulting rank, or barred by a number, at the object of index `place`; 65535 for none.

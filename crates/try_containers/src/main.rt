@@ -1,10 +1,12 @@
 // Reads lines of a name and the bytes of a container in hexadecimal, a space before each, and writes for each the name and what
-// reading the container answers: the bar and the index of its object, or the number of objects and the count of the HP metric.
+// reading the container answers: the bar and the index of its object, or the number of objects, the count of the HP metric, and the latency
+// and the ETX that are added up along the path, where they are not 0.
 // A line of another form, or with a container of more than 512 bytes, has the answer NAME `unreadable`.
 // It takes the first 65,536 bytes of its input.
 use libc::STDIN_FILENO;
 use libc::STDOUT_FILENO;
 use wire::Reading;
+use wire::Told;
 
 fn say(text: &[u8]) {
     io::write_all(STDOUT_FILENO, text);
@@ -12,6 +14,24 @@ fn say(text: &[u8]) {
 
 fn say_number(n: u32) {
     io::print_decimal(STDOUT_FILENO, n as u64);
+}
+
+// Writes a name and a number, unless it is 0.
+fn say_sum(name: &[u8], n: u32) {
+    if 0 < n {
+        say(name);
+        say_number(n);
+    }
+}
+
+// Writes what a container tells the tests of its constraints.
+fn say_told(told: Told) {
+    if 0 < told.hops {
+        say(b" hops ");
+        say_number((told.hops - 1) as u32);
+    }
+    say_sum(b" latency ", told.latency);
+    say_sum(b" etx ", told.etx as u32);
 }
 
 // Writes what reading a container answers.
@@ -28,14 +48,11 @@ fn say_reading(container: &[u8]) {
         Reading::WellFormed {
             count,
             mandatory: _,
-            hops,
+            told,
         } => {
             say(b" objects ");
             say_number(count as u32);
-            if 0 < hops {
-                say(b" hops ");
-                say_number((hops - 1) as u32);
-            }
+            say_told(told);
         }
     }
     say(b"\n");

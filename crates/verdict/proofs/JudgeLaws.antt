@@ -17,11 +17,12 @@ use Rattle.model.specs.declared.Verdict.the-variants.{Barred}
 use Rattle.model.specs.Number.{anyOf, firstOf}
 use Rattle.model.specs.Object.{Object}
 use Rattle.model.specs.Reading.{noPlace, Reading, refused, wellFormed, reading}
-use Rattle.model.specs.Constraint.{hopCount, summary, constraintBar, mandatory}
+use Rattle.model.specs.Constraint.{summary, constraintBar, mandatory}
 use Rattle.model.specs.Verdict.{outOfRange, rankBar, judgeRank, judgeObjects, judgeReading, verdict}
 use Rattle.model.proofs.BoolLaws.{neither}
 use Rattle.model.proofs.FirstLaws.{index-none}
-use Rattle.wire.specs.Reading.{hopsOf, readingOf}
+use Rattle.wire.specs.Reading.{hopsOf, toldOf, readingOf}
+use Rattle.wire.specs.declared.container.Told.{Told}
 use Rattle.wire.specs.declared.container.Reading.the-variants.{Refused, WellFormed}
 use Rattle.verdict.specs.declared.candidate.Barring.{Barring}
 use Rattle.verdict.specs.Judged.{ReadAs, BarsFirst}
@@ -32,18 +33,23 @@ judged-refused own c (refused m q) n p e = cc
 judged-refused own c (wellFormed os) n p e = absurd (let z : _≡_ {A = ℕ} 0 1 = cc in omega arith)
 
 -- a container that is read has objects, and what was read is theirs
-pub read-objects : (x : Reading) (n : ℕ) (k : Bool) (h : ℕ) → WellFormed n k h ≡ readingOf x → (os : List Object) × (x ≡ wellFormed os)
-read-objects (refused m q) n k h e = absurd (let z : _≡_ {A = ℕ} 0 1 = cc in omega arith)
-read-objects (wellFormed os) n k h e = (os, refl)
+pub read-objects : (x : Reading) (n : ℕ) (k : Bool) (t : Told) → WellFormed n k t ≡ readingOf x → (os : List Object) × (x ≡ wellFormed os)
+read-objects (refused m q) n k t e = absurd (let z : _≡_ {A = ℕ} 0 1 = cc in omega arith)
+read-objects (wellFormed os) n k t e = (os, refl)
 
-pub read-as : (x : Reading) (n : ℕ) (k : Bool) (h : ℕ) → WellFormed n k h ≡ readingOf x → (os : List Object) → x ≡ wellFormed os → ReadAs n k h os
-read-as x n k h e os q =
-    let r : WellFormed n k h ≡ WellFormed (length os) (anyOf mandatory os) (hopsOf (hopCount os)) = e ∙ ap readingOf q in
-    record { objects = cc; mandatories = cc; hop-metric = cc }
+pub read-as : (x : Reading) (n : ℕ) (k : Bool) (t : Told) → WellFormed n k t ≡ readingOf x → (os : List Object) → x ≡ wellFormed os → ReadAs n k t os
+read-as x n k t e os q =
+    let r : WellFormed n k t ≡ WellFormed (length os) (anyOf mandatory os) (toldOf (summary os)) = e ∙ ap readingOf q in
+    record { objects = cc; mandatories = cc; tells = cc }
 
--- the summary by the count of the HP metric
-pub summary-by : (s : Summary) (n : ℕ) (os : List Object) → hopsOf (s .hops) ≡ n → n ≡ hopsOf (hopCount os) → s ≡ summary os
-summary-by s n os e q = ap (λ (x : Quantity). record { hops = x }) (go (s .hops) (hopCount os) (e ∙ q))
+-- a summary by what it tells
+pub summary-by : (s s′ : Summary) → toldOf s ≡ toldOf s′ → s ≡ s′
+summary-by s s′ e =
+    let h : hopsOf (s .hops) ≡ hopsOf (s′ .hops) = ap (λ (t : Told). t .hops) e in
+    let l : s .latency ≡ s′ .latency = ap (λ (t : Told). t .latency) e in
+    let x : s .etx ≡ s′ .etx = ap (λ (t : Told). t .etx) e in
+    let same : record { hops = s .hops; latency = s .latency; etx = s .etx } ≡ s′ = rw (go (s .hops) (s′ .hops) h, l, x) in
+    same
   where
     go : (x y : Quantity) → hopsOf x ≡ hopsOf y → x ≡ y
     go (Known v) (Known w) e = let z : v ≡ w = omega arith in rw z
@@ -51,28 +57,32 @@ summary-by s n os e q = ap (λ (x : Quantity). record { hops = x }) (go (s .hops
     go Unknown (Known w) e = absurd (omega arith)
     go Unknown Unknown e = refl
 
+-- what is told, by its count
+pub told-with : (t : Told) (n : ℕ) → t .hops ≡ n → record { hops = n; latency = t .latency; etx = t .etx } ≡ t
+told-with t n e = ap (λ (m : ℕ). record { hops = m; latency = t .latency; etx = t .etx }) (sym e)
+
 -- without mandatory constraints no object bars
 pub no-mandatory : (c : Neighbour) (s : Summary) (os : List Object) → false ≡ anyOf mandatory os → firstOf (constraintBar c s) os ≡ 0
 unfolding firstOf constraintBar
 no-mandatory c s [] e = refl
 no-mandatory c s (o ∷ os) e = let (a, b) = neither (mandatory o) (anyOf mandatory os) (sym e) in rw a (no-mandatory c s os (sym b))
 
-module _ {n : ℕ} {k : Bool} {h : ℕ} (c : Neighbour) where
-  pub bars-none : (os : List Object) → ReadAs n k h os → k ≡ false → BarsFirst c (summary os) os (record { number = 0; place = n })
+module _ {n : ℕ} {k : Bool} {t : Told} (c : Neighbour) where
+  pub bars-none : (os : List Object) → ReadAs n k t os → k ≡ false → BarsFirst c (summary os) os (record { number = 0; place = n })
   bars-none os w e =
       let none = no-mandatory c (summary os) os (sym e ∙ w .mandatories) in
       record { number = sym none; place = w .objects ∙ sym (index-none (constraintBar c (summary os)) os none) }
 
   -- the tests with the summary that code makes
-  pub bars-by : (s : Summary) (os : List Object) (b : Barring) → ReadAs n k h os → hopsOf (s .hops) ≡ h → BarsFirst c s os b → BarsFirst c (summary os) os b
-  bars-by s os b w e f = rw (summary-by s h os e (w .hop-metric)) at f
+  pub bars-by : (s : Summary) (os : List Object) (b : Barring) → ReadAs n k t os → toldOf s ≡ t → BarsFirst c s os b → BarsFirst c (summary os) os b
+  bars-by s os b w e f = rw (summary-by s (summary os) (e ∙ w .tells)) at f
 
-module _ (own : Own) (c : Neighbour) (x : Reading) (n : ℕ) (k : Bool) (h : ℕ) (b : Barring) (e : WellFormed n k h ≡ readingOf x)
-    (f : (os : List Object) → x ≡ wellFormed os → ReadAs n k h os → BarsFirst c (summary os) os b) where
+module _ (own : Own) (c : Neighbour) (x : Reading) (n : ℕ) (k : Bool) (t : Told) (b : Barring) (e : WellFormed n k t ≡ readingOf x)
+    (f : (os : List Object) → x ≡ wellFormed os → ReadAs n k t os → BarsFirst c (summary os) os b) where
   by-bar : (v : _) → ((os : List Object) → v ≡ judgeObjects own c (b .number) (b .place)) → v ≡ judgeReading own c x
   by-bar v g =
-      let (os, q) = read-objects x n k h e in
-      let w : BarsFirst c (summary os) os b = f os q (read-as x n k h e os q) in
+      let (os, q) = read-objects x n k t e in
+      let w : BarsFirst c (summary os) os b = f os q (read-as x n k t e os q) in
       rw (q, ← w .number, ← w .place) (g os)
 
   -- an object bars

@@ -57,7 +57,7 @@ module _ (c : Neighbour) (s : Summary) (bs : List ℕ) where
     pass-tabled f =
         let r = reading-objects bs (f .objects) (f .read) in
         let (rest, q) = walk-rest bs p (w .earlier) (f .objects) (w .walked) (r .objects) e in
-        among-tabled [] (w .earlier) (objectIn bs h start end) rest (rw q at r .noBar)
+        among-tabled (w .earlier) (objectIn bs h start end) rest (rw q at r .noBar)
 
     -- it is the first that a test bars
     pub pass-barred : (number : ℕ) → number ≡ constraintBar c s (objectIn bs h start end) → (number ≡ 0 → ⊥)

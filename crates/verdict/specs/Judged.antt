@@ -11,8 +11,9 @@ use Rattle.model.specs.Number.{anyOf, firstOf, indexOf}
 use Rattle.model.specs.Object.{Object, kind, known, role}
 use Rattle.model.specs.Table.{row}
 use Rattle.model.specs.Reading.{shaped, reading, wellFormed}
-use Rattle.model.specs.Constraint.{hopCount, mandatory, unknownMandatory, unmet, constraintBar}
-use Rattle.wire.specs.Reading.{hopsOf}
+use Rattle.model.specs.Constraint.{summary, mandatory, unknownMandatory, unmet, constraintBar}
+use Rattle.wire.specs.declared.container.Told.{Told}
+use Rattle.wire.specs.Reading.{toldOf}
 use Rattle.verdict.specs.declared.candidate.Barring.{Barring}
 
 -- an object whose body is as tabled, if its type is known
@@ -28,11 +29,11 @@ pub record WellFormed (bs : List ℕ) : Type 0 where
   pub objects : List Object
   pub read : reading bs ≡ wellFormed objects
 
--- what was read of a well-formed container's objects: their number, whether some are mandatory constraints, and the count of the HP metric
-pub record ReadAs (count : ℕ) (asked : Bool) (hops : ℕ) (os : List Object) : Type 0 where
+-- what was read of a well-formed container's objects: their number, whether some are mandatory constraints, and what they tell the tests of these
+pub record ReadAs (count : ℕ) (asked : Bool) (told : Told) (os : List Object) : Type 0 where
   pub objects : count ≡ length os
   pub mandatories : asked ≡ anyOf mandatory os
-  pub hop-metric : hops ≡ hopsOf (hopCount os)
+  pub tells : told ≡ toldOf (summary os)
 
 -- the first object with bar 18 or 19, by number and index
 pub record BarsFirst (c : Neighbour) (s : Summary) (os : List Object) (b : Barring) : Type 0 where

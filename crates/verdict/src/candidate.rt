@@ -5,7 +5,7 @@ ghost use Rattle.model.specs.Object.{Object};
 ghost use Rattle.model.specs.Reading.{reading, wellFormed};
 ghost use Rattle.model.specs.Constraint.{summary};
 ghost use Rattle.model.specs.Verdict.{outOfRange, judgeReading, verdict};
-ghost use Rattle.wire.specs.Reading.{hopsOf};
+ghost use Rattle.wire.specs.Reading.{toldOf};
 ghost use Rattle.verdict.specs.Judged.{WellFormed, ReadAs, BarsFirst};
 use crate::constraints;
 use crate::rank;
@@ -17,6 +17,7 @@ use model::Summary;
 use model::Verdict;
 use wire::Reading;
 use wire::Step;
+use wire::Told;
 
 // The first object with bar 18 or 19: the number and its index. Number 0 for none.
 pub struct Barring {
@@ -72,17 +73,21 @@ fn first_barring(neighbour: Neighbour, summary: Summary, container: &[u8]) -> Ba
     }
 }
 
-// What a container tells the tests of its own constraints, by one more than the count of its HP metric, 0 for none.
-fn summary_of(hops: u16) -> Summary
-    ensures { λ r. ⌜ hopsOf (r .hops) ≡ hops ⌝ }
+// What a container tells the tests of its own constraints, by what was read of it.
+fn summary_of(told: Told) -> Summary
+    ensures { λ r. ⌜ toldOf r ≡ told ⌝ }
 {
-    if hops == 0 {
+    if told.hops == 0 {
         return Summary {
             hops: Quantity::Unknown,
+            latency: told.latency,
+            etx: told.etx,
         };
     }
     Summary {
-        hops: Quantity::Known((hops - 1) as u32),
+        hops: Quantity::Known((told.hops - 1) as u32),
+        latency: told.latency,
+        etx: told.etx,
     }
 }
 
@@ -92,11 +97,11 @@ fn barring_of(
     neighbour: Neighbour,
     count: u16,
     mandatory: bool,
-    hops: u16,
+    told: Told,
     container: &[u8],
 ) -> Barring
     requires { ⌜ WellFormed (now container) ⌝ }
-    ensures { λ r. ⌜ ((os : List Object) → reading (now (container .entry)) ≡ wellFormed os → ReadAs count mandatory hops os → BarsFirst neighbour (summary os) os r) ⌝ }
+    ensures { λ r. ⌜ ((os : List Object) → reading (now (container .entry)) ≡ wellFormed os → ReadAs count mandatory told os → BarsFirst neighbour (summary os) os r) ⌝ }
 {
     if !mandatory {
         return Barring {
@@ -104,7 +109,7 @@ fn barring_of(
             place: count,
         };
     }
-    first_barring(neighbour, summary_of(hops), container)
+    first_barring(neighbour, summary_of(told), container)
 }
 
 // The verdict on a candidate past bars 11 and 12, by its container.
@@ -116,9 +121,9 @@ fn judge_container(own: Own, neighbour: Neighbour, container: &[u8]) -> Verdict
         Reading::WellFormed {
             count,
             mandatory,
-            hops,
+            told,
         } => {
-            let barring = barring_of(neighbour, count, mandatory, hops, container);
+            let barring = barring_of(neighbour, count, mandatory, told, container);
             if barring.number != 0 {
                 return Verdict::Barred {
                     number: barring.number,

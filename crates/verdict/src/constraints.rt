@@ -1,6 +1,6 @@
 // Bars 18 and 19 at an object: when a mandatory constraint is met.
 ghost use mathlib.Core.Path.{_≡_};
-ghost use Prim.Native.Nat.{_/_};
+ghost use Prim.Native.Nat.{_+_, _/_};
 ghost use mathlib.Core.Bool.{true, _&&_};
 ghost use mathlib.Core.List.{[]};
 ghost use lib.Dec.{leb, ltb};
@@ -62,18 +62,18 @@ fn meets_throughput(neighbour: Neighbour, limit: u32) -> bool
     (neighbour.flags / 32 % 2 == 1) & (limit <= neighbour.throughput)
 }
 
-// Latency: the link's value is at most the limit.
-fn meets_latency(neighbour: Neighbour, limit: u32) -> bool
-    ensures { λ r. ⌜ r ≡ satisfies (λ v. leb v limit) (linkValue neighbour latency) ⌝ }
+// Latency: the value received and the link's are together at most the limit.
+fn meets_latency(neighbour: Neighbour, received: u32, limit: u32) -> bool
+    ensures { λ r. ⌜ r ≡ satisfies (λ v. leb (received + v) limit) (linkValue neighbour latency) ⌝ }
 {
-    (neighbour.flags / 16 % 2 == 1) & (neighbour.latency <= limit)
+    (neighbour.flags / 16 % 2 == 1) & (received as u64 + neighbour.latency as u64 <= limit as u64)
 }
 
-// ETX: the link's value is at most the limit.
-fn meets_etx(neighbour: Neighbour, limit: u16) -> bool
-    ensures { λ r. ⌜ r ≡ satisfies (λ v. leb v limit) (linkValue neighbour etx) ⌝ }
+// ETX: the value received and the link's are together at most the limit.
+fn meets_etx(neighbour: Neighbour, received: u16, limit: u16) -> bool
+    ensures { λ r. ⌜ r ≡ satisfies (λ v. leb (received + v) limit) (linkValue neighbour etx) ⌝ }
 {
-    (neighbour.flags / 8 % 2 == 1) & (neighbour.etx <= limit)
+    (neighbour.flags / 8 % 2 == 1) & (received as u32 + neighbour.etx as u32 <= limit as u32)
 }
 
 // LQL: the link's value is from 1 up to Val.
@@ -101,13 +101,13 @@ fn is_met(neighbour: Neighbour, summary: Summary, mctype: u8, body: &[u8]) -> bo
         return meets_throughput(neighbour, wire::number_4(body));
     }
     if mctype == 5 {
-        return meets_latency(neighbour, wire::number_4(body));
+        return meets_latency(neighbour, summary.latency, wire::number_4(body));
     }
     if mctype == 6 {
         return meets_lql(neighbour, body[1]);
     }
     if mctype == 7 {
-        return meets_etx(neighbour, wire::number_2(body));
+        return meets_etx(neighbour, summary.etx, wire::number_2(body));
     }
     false
 }

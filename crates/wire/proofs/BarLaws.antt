@@ -1,9 +1,10 @@
 -- Bars 15 to 17 at an object, by the tests that code makes.
-use mathlib.Core.Path.{_≡_}
+use mathlib.Core.Path.{_≡_, sym}
 use mathlib.Core.Bool.{Bool, true, false, cond}
 use Rattle.model.specs.Object.{Object, kind, role, known}
 use Rattle.model.specs.Table.{row}
 use Rattle.model.specs.Reading.{cannotBe, shaped}
+use Rattle.model.proofs.TabledLaws.{no-bar}
 use Rattle.wire.specs.Seen.{barBy}
 
 module _ (seen : Bool) (o : Object) where
@@ -28,3 +29,8 @@ module _ (seen : Bool) (o : Object) where
       → cond seen 16 0 ≡ barBy seen o
   unfolding barBy
   bar-shaped k m b = rw (k, m, b)
+
+  -- a known type without one is what it can be, and its body is as tabled
+  pub bar-clear : known (kind o) ≡ true → 0 ≡ barBy seen o → (cannotBe (role o) (row (kind o)) ≡ false) × (shaped (role o) (row (kind o)) (o .body) ≡ true)
+  unfolding barBy
+  bar-clear k e = let (m, s, r) = no-bar (cannotBe (role o) (row (kind o))) (shaped (role o) (row (kind o)) (o .body)) seen (sym (rw k at e)) in (m, s)

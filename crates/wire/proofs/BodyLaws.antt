@@ -94,13 +94,8 @@ roleIn h = roleOf (h .flags) (h .mode)
 abbrev kindIn : Header → Kind
 kindIn h = kindOf (h .mctype)
 
-pub shaped-recorded : (h : Header) (b : List ℕ) → isRecorded (roleIn h) ≡ true → recordedShape (row (kindIn h)) b ≡ shaped (roleIn h) (row (kindIn h)) b
-shaped-recorded h b e = go (roleIn h) e
-  where
-    go : (r : Role) → isRecorded r ≡ true → recordedShape (row (kindIn h)) b ≡ shaped r (row (kindIn h)) b
-    go constraint e = absurd (false≢true e)
-    go recorded e = refl
-    go aggregated e = absurd (false≢true e)
+pub shaped-recorded : (h : Header) (b : List ℕ) → roleIn h ≡ recorded → recordedShape (row (kindIn h)) b ≡ shaped (roleIn h) (row (kindIn h)) b
+shaped-recorded h b e = rw e
 
 pub shaped-fixed : (h : Header) (b : List ℕ) → isRecorded (roleIn h) ≡ false → fixedShape (row (kindIn h)) b ≡ shaped (roleIn h) (row (kindIn h)) b
 shaped-fixed h b e = go (roleIn h) e
@@ -119,24 +114,13 @@ misused-constraint h e = go (roleIn h) e
     go recorded e = absurd (false≢true e)
     go aggregated e = absurd (false≢true e)
 
-pub misused-recorded : (h : Header) (w : Row) → w ≡ rowFor (h .mctype) → isRecorded (roleIn h) ≡ true → not (w .records) ≡ cannotBe (roleIn h) (row (kindIn h))
-misused-recorded h w q e = go (roleIn h) e
-  where
-    go : (r : Role) → isRecorded r ≡ true → not (w .records) ≡ cannotBe r (row (kindIn h))
-    go constraint e = absurd (false≢true e)
-    go recorded e = by-kind (λ w k. not (w .records) ≡ not (row k .records)) (λ k. refl) w (h .mctype) q
-    go aggregated e = absurd (false≢true e)
+pub misused-recorded : (h : Header) (w : Row) → w ≡ rowFor (h .mctype) → roleIn h ≡ recorded → not (w .records) ≡ cannotBe (roleIn h) (row (kindIn h))
+misused-recorded h w q e = rw e (by-kind (λ w k. not (w .records) ≡ not (row k .records)) (λ k. refl) w (h .mctype) q)
 
 -- a mask is 0 where no A is allowed
 masks : (k : Kind) → eqb (rowIn k .allows) 0 ≡ isEmpty (row k .allows)
 unfolding kindOf
 masks k = beq-true _ _ (every-kind (λ k. Bool·beq (eqb (rowIn k .allows) 0) (isEmpty (row k .allows))) refl k)
 
-pub misused-aggregated : (h : Header) (w : Row) → w ≡ rowFor (h .mctype) → isConstraint (roleIn h) ≡ false → isRecorded (roleIn h) ≡ false
-    → eqb (w .allows) 0 ≡ cannotBe (roleIn h) (row (kindIn h))
-misused-aggregated h w q c e = go (roleIn h) c e
-  where
-    go : (r : Role) → isConstraint r ≡ false → isRecorded r ≡ false → eqb (w .allows) 0 ≡ cannotBe r (row (kindIn h))
-    go constraint c e = absurd (true≢false c)
-    go recorded c e = absurd (true≢false e)
-    go aggregated c e = by-kind (λ w k. eqb (w .allows) 0 ≡ isEmpty (row k .allows)) masks w (h .mctype) q
+pub misused-aggregated : (h : Header) (w : Row) → w ≡ rowFor (h .mctype) → roleIn h ≡ aggregated → eqb (w .allows) 0 ≡ cannotBe (roleIn h) (row (kindIn h))
+misused-aggregated h w q e = rw e (by-kind (λ w k. eqb (w .allows) 0 ≡ isEmpty (row k .allows)) masks w (h .mctype) q)

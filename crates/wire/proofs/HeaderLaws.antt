@@ -2,9 +2,9 @@
 use mathlib.Core.Path.{_≡_, refl}
 use Prim.Native.Nat.{ℕ, zero, suc, _/_, _%_, _<_}
 use native.Mathlib.Omega.{arith}
-use mathlib.Core.Bool.{_&&_}
+use mathlib.Core.Bool.{true, false, _&&_, false≢true, true≢false}
 use lib.Dec.{eqb}
-use Rattle.model.specs.Object.{isConstraint, isRecorded, roleBits, roleOf}
+use Rattle.model.specs.Object.{Role, constraint, recorded, aggregated, isConstraint, isRecorded, roleBits, roleOf}
 
 constraint-bits : (c r : ℕ) → c < 2 → eqb c 1 ≡ isConstraint (roleBits c r)
 constraint-bits zero zero h = refl
@@ -28,3 +28,19 @@ constraint-by f m = constraint-bits (f / 2 % 2) (m / 128 % 2) (omega arith)
 pub recorded-by : (f m : ℕ) → eqb (f / 2 % 2) 0 && eqb (m / 128 % 2) 1 ≡ isRecorded (roleOf f m)
 unfolding roleOf
 recorded-by f m = recorded-bits (f / 2 % 2) (m / 128 % 2) (omega arith) (omega arith)
+
+-- the role by the tests that code makes
+pub role-recorded : (r : Role) → isRecorded r ≡ true → r ≡ recorded
+role-recorded constraint e = absurd (false≢true e)
+role-recorded recorded e = refl
+role-recorded aggregated e = absurd (false≢true e)
+
+pub role-aggregated : (r : Role) → isConstraint r ≡ false → isRecorded r ≡ false → r ≡ aggregated
+role-aggregated constraint c e = absurd (true≢false c)
+role-aggregated recorded c e = absurd (true≢false e)
+role-aggregated aggregated c e = refl
+
+pub constraint-unrecorded : (r : Role) → isConstraint r ≡ true → isRecorded r ≡ false
+constraint-unrecorded constraint e = refl
+constraint-unrecorded recorded e = absurd (false≢true e)
+constraint-unrecorded aggregated e = absurd (false≢true e)

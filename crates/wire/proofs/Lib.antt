@@ -10,6 +10,6 @@ pub mod BitLaws
 pub mod SeenLaws
 pub mod MandatoryLaws
 pub mod GatherLaws
-pub mod HopLaws
+pub mod ToldLaws
 pub mod ReadLaws
 pub mod PutLaws

@@ -12,7 +12,7 @@ use Rattle.model.proofs.ObjectLaws.{behind}
 use Rattle.wire.specs.declared.objects.Header.{Header}
 use Rattle.wire.specs.declared.objects.Cursor.{Cursor}
 use Rattle.wire.specs.declared.objects.Step.the-variants.{Found, CutShort, End}
-use Rattle.wire.specs.declared.container.Gathered.{Gathered}
+use Rattle.wire.specs.declared.gathered.Gathered.{Gathered}
 use Rattle.wire.specs.declared.container.Reading.{Reading}
 use Rattle.wire.specs.declared.container.Reading.the-variants.{Refused}
 use Rattle.wire.specs.Step.{firstCursor, stepAt, objectIn}
@@ -29,7 +29,7 @@ pub record Pass (bs : List ℕ) (p : Cursor) (g : Gathered) : Type 0 where
   pub gathers : Gathers g earlier
   pub clear : g .number ≡ 0
 
-pub pass-first : (bs : List ℕ) (p : Cursor) → p ≡ firstCursor → Pass bs p (record { number = 0; place = 0; seen = 0; hops = 0; flags = 0 })
+pub pass-first : (bs : List ℕ) (p : Cursor) → p ≡ firstCursor → Pass bs p (record { number = 0; place = 0; seen = 0; hops = 0; latency = 0; etx = 0; flags = 0 })
 pass-first bs p e = rw e (record { earlier = []; walked = walk-first bs; gathers = gathers-none; clear = refl })
 
 -- one object more
@@ -56,10 +56,6 @@ pub pass-place : (bs : List ℕ) (p : Cursor) (g : Gathered) {h : Header} {start
     → length bs ≤ 257 → g .place < 65535
 pass-place bs p g w e l = omega (arith, walk-count bs p (w .earlier) (w .walked) e, gathers-le g (w .earlier) (w .gathers))
 
--- bar 14
-pub read-14 : (bs : List ℕ) (p : Cursor) (g : Gathered) → Pass bs p g → stepAt bs p ≡ CutShort → Refused 14 65535 ≡ readingOf (readObjects (dataObjects bs))
-read-14 bs p g w e = rw (walk-short bs p (w .earlier) (w .walked) e)
-
 -- all objects
 pub read-whole : (bs : List ℕ) (p : Cursor) (g : Gathered) (r : Reading) → Pass bs p g → stepAt bs p ≡ End
     → ((os : List Object) → Gathers g os → r ≡ readingOf (wholeReading os)) → r ≡ readingOf (readObjects (dataObjects bs))
@@ -82,6 +78,11 @@ whole-short bs p e = rw (split-short bs p e)
 pub whole-end : (bs : List ℕ) (p : Cursor) → stepAt bs p ≡ End → true ≡ wholeFrom bs p
 unfolding wholeFrom
 whole-end bs p e = rw (split-end bs p e)
+
+-- bar 14
+pub read-14 : (bs : List ℕ) (p : Cursor) (g : Gathered) (n k : ℕ) → Pass bs p g → stepAt bs p ≡ CutShort
+    → barredBy (wholeFrom bs p) n k ≡ readingOf (readObjects (dataObjects bs))
+read-14 bs p g n k w e = rw (← whole-short bs p e, walk-short bs p (w .earlier) (w .walked) e)
 
 -- ---- the frame
 

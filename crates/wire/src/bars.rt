@@ -1,63 +1,65 @@
-// Bars 15 to 17 at an object.
+// Bars 15 to 17 at an object of known type, by its role and the uses seen before it.
 ghost use mathlib.Core.Path.{_≡_};
-ghost use mathlib.Core.Bool.{cond};
-ghost use Rattle.model.specs.Object.{kindOf, roleOf};
+ghost use mathlib.Core.Bool.{true, false, cond};
+ghost use mathlib.Core.List.{[]};
+ghost use Rattle.model.specs.Object.{kindOf, known, roleOf, isRecorded, recorded, aggregated};
 ghost use Rattle.model.specs.Table.{row};
-ghost use Rattle.model.specs.Reading.{cannotBe, shaped};
+ghost use Rattle.model.specs.Reading.{cannotBe};
 ghost use Rattle.wire.specs.Step.{objectOf};
-ghost use Rattle.wire.specs.Seen.{barBy};
+ghost use Rattle.wire.specs.Seen.{hasUse, barBy};
 use crate::bodies;
-use crate::objects;
 use crate::objects::Header;
+use crate::seen;
 use crate::table;
 
-// Whether a metric is what its type cannot be: recorded, or aggregated by any A.
-fn is_misused(header: Header) -> bool
-    ensures { λ r. ⌜ r ≡ cannotBe (roleOf (header .flags) (header .mode)) (row (kindOf (header .mctype))) ⌝ }
+// 16 for an object whose use was seen, else another number.
+fn repeat_or(seen: u16, header: Header, number: u8) -> u8
+    ensures { λ r. ⌜ r ≡ cond (hasUse seen (objectOf header [])) 16 number ⌝ }
 {
-    if objects::is_constraint(header) {
-        return false;
-    }
-    if objects::is_recorded(header) {
-        let row = table::row_of(header.mctype);
-        return !row.records;
-    }
-    let row = table::row_of(header.mctype);
-    row.allows == 0
-}
-
-// Whether a body is as tabled.
-fn is_shaped(header: Header, body: &[u8]) -> bool
-    ensures { λ r. ⌜ r ≡ shaped (roleOf (header .flags) (header .mode)) (row (kindOf (header .mctype))) (now (body .entry)) ⌝ }
-{
-    if objects::is_recorded(header) {
-        return bodies::is_series(header.mctype, body);
-    }
-    bodies::is_fixed(header.mctype, body)
-}
-
-// 16 for a use that was seen before, else another number.
-fn repeat_or(seen: bool, number: u8) -> u8
-    ensures { λ r. ⌜ r ≡ cond seen 16 number ⌝ }
-{
-    if seen {
+    if seen::has(seen, header) {
         return 16;
     }
     number
 }
 
-// The lowest of 15, 16 and 17 at an object whose use was seen before it or not; 0 for none.
-pub(crate) fn object_bar(header: Header, body: &[u8], seen: bool) -> u8
-    ensures { λ r. ⌜ r ≡ barBy seen (objectOf header (now (body .entry))) ⌝ }
+// The lower of 15 and 16 at a constraint, or at an aggregated metric that its type can be; 0 for none.
+pub(crate) fn fixed_bar(header: Header, body: &[u8], seen: u16) -> u8
+    requires { ⌜ known (kindOf (header .mctype)) ≡ true ⌝ }
+    requires { ⌜ isRecorded (roleOf (header .flags) (header .mode)) ≡ false ⌝ }
+    requires { ⌜ cannotBe (roleOf (header .flags) (header .mode)) (row (kindOf (header .mctype))) ≡ false ⌝ }
+    ensures { λ r. ⌜ r ≡ barBy (hasUse seen (objectOf header [])) (objectOf header (now (body .entry))) ⌝ }
 {
-    if !table::is_known(header.mctype) {
-        return 0;
-    }
-    if is_misused(header) {
-        return repeat_or(seen, 17);
-    }
-    if !is_shaped(header, body) {
+    if !bodies::is_fixed(header.mctype, body) {
         return 15;
     }
-    repeat_or(seen, 0)
+    repeat_or(seen, header, 0)
+}
+
+// The lowest of 15, 16 and 17 at an aggregated metric; 0 for none.
+pub(crate) fn aggregated_bar(header: Header, body: &[u8], seen: u16) -> u8
+    requires { ⌜ known (kindOf (header .mctype)) ≡ true ⌝ }
+    requires { ⌜ roleOf (header .flags) (header .mode) ≡ aggregated ⌝ }
+    ensures { λ r. ⌜ r ≡ barBy (hasUse seen (objectOf header [])) (objectOf header (now (body .entry))) ⌝ }
+{
+    let row = table::row_of(header.mctype);
+    if row.allows == 0 {
+        return repeat_or(seen, header, 17);
+    }
+    fixed_bar(header, body, seen)
+}
+
+// The lowest of 15, 16 and 17 at a recorded metric; 0 for none.
+pub(crate) fn recorded_bar(header: Header, body: &[u8], seen: u16) -> u8
+    requires { ⌜ known (kindOf (header .mctype)) ≡ true ⌝ }
+    requires { ⌜ roleOf (header .flags) (header .mode) ≡ recorded ⌝ }
+    ensures { λ r. ⌜ r ≡ barBy (hasUse seen (objectOf header [])) (objectOf header (now (body .entry))) ⌝ }
+{
+    let row = table::row_of(header.mctype);
+    if !row.records {
+        return repeat_or(seen, header, 17);
+    }
+    if !bodies::is_series(header.mctype, body) {
+        return 15;
+    }
+    repeat_or(seen, header, 0)
 }

@@ -2,6 +2,7 @@
 mod bars;
 mod bodies;
 mod container;
+mod gathered;
 mod mandatory;
 mod numbers;
 mod objects;
@@ -9,6 +10,7 @@ mod seen;
 mod table;
 
 pub use container::Reading;
+pub use container::Told;
 pub use container::read;
 pub use numbers::number_2;
 pub use numbers::number_4;

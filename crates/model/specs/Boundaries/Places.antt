@@ -2,7 +2,7 @@
 use Prim.Native.Nat.{ℕ}
 use mathlib.Core.List.{List, [], _∷_, _++_}
 use lib.ListN.{getD}
-use Rattle.model.specs.Samples.{Example, _gives_, own0, ranked, neighbour0, one, Calling, hop, resultOf}
+use Rattle.model.specs.Samples.{Example, _gives_, own0, ranked, neighbour0, etxOf, one, Calling, hop, resultOf}
 
 -- the place of the first candidate's bar
 abbrev pub placeGiven : Calling → ℕ
@@ -29,4 +29,7 @@ places =
     ∷ hop own0 neighbour0 (one 200 0x02 0x00 []) gives 0
     ∷ hop own0 neighbour0 (one 200 0x03 0x00 [] ++ one 200 0x02 0x00 []) gives 1
     ∷ hop own0 neighbour0 (one 7 0x03 0x00 (0x00 ∷ 0x80 ∷ []) ++ other ++ one 3 0x02 0x00 (0x00 ∷ 4 ∷ []) ++ one 200 0x02 0x00 []) gives 2
+    -- 19 at a limit of the path, the metric before it and behind it
+    ∷ hop own0 (etxOf 57) (one 7 0x00 0x00 (0x00 ∷ 0xC8 ∷ []) ++ other ++ one 7 0x02 0x00 (0x01 ∷ 0x00 ∷ [])) gives 2
+    ∷ hop own0 (etxOf 57) (other ++ one 7 0x02 0x00 (0x01 ∷ 0x00 ∷ []) ++ one 7 0x00 0x00 (0x00 ∷ 0xC8 ∷ [])) gives 1
     ∷ []

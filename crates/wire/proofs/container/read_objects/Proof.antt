@@ -71,10 +71,13 @@ loop-again c =
 enum-told : tie.Need-enum-told Inv-loop μ-loop
 enum-told c = search needs
 
+barred-requires-2 : tie.Need-barred-requires-2 Inv-loop μ-loop
+barred-requires-2 c κs = search needs
+
 returns-2 : tie.Need-returns-2 Inv-loop μ-loop
 returns-2 c =
-    let at-step = c .before .before in
-    read-14 _ _ _ (at-step .before .loop .inv) (sym (at-step .next .ensures) ∙ c .enum-told .given .1)
+    let at-step = c .before .before .before in
+    c .barred2 .ensures ∙ read-14 _ _ _ _ _ (at-step .before .loop .inv) (sym (at-step .next .ensures) ∙ c .before .enum-told .given .1)
 
 enum-told-2 : tie.Need-enum-told-2 Inv-loop μ-loop
 enum-told-2 c = search needs
@@ -106,6 +109,7 @@ read-objects-spec =
     loop-less
     loop-again
     enum-told
+    barred-requires-2
     returns-2
     enum-told-2
     conclude-requires

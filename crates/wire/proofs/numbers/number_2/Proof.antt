@@ -1,36 +1,16 @@
 use mathlib.Core.Path.{sym, _∙_}
-use Rattle.model.proofs.TabledLaws.{number-2}
 use Rattle.wire.proofs.NumberLaws.{number-in, number-none}
-use native.Mathlib.Omega.{arith}
-use borrow.Author.Needs.{needs}
 use Rattle.wire.proofs.numbers.number_2.Statement.{statement}
 use Rattle.wire.proofs.numbers.number_2.Tie as tie
 
 returns : tie.Need-returns
 returns c = number-none 2 _ (c .if1 .taken)
 
-shared-slice-read-result : tie.Need-shared-slice-read-result
-shared-slice-read-result c = search needs
-
-cast-result : tie.Need-cast-result
-cast-result c = omega (arith, c .shared-slice-known .given 0)
-
-mul-result : tie.Need-mul-result
-mul-result c = omega (arith, c .shared-slice-known .given 0)
-
-shared-slice-read-result-2 : tie.Need-shared-slice-read-result-2
-shared-slice-read-result-2 c = search needs
-
-cast-result-2 : tie.Need-cast-result-2
-cast-result-2 c = omega (arith, c .shared-slice-known2 .given 1)
-
-add-result : tie.Need-add-result
-add-result c = omega (arith, c .shared-slice-known2 .given 1, c .before .shared-slice-known .given 0)
+two-requires : tie.Need-two-requires
+two-requires c κs = c .if1 .left
 
 returns-2 : tie.Need-returns-2
-returns-2 c =
-    let whole = c .before .before .if1 .left in
-    number-2 _ whole ∙ sym (number-in 2 _ whole)
+returns-2 c = c .two .ensures ∙ sym (number-in 2 _ (c .before .if1 .left))
 
 pub number-2-spec : {M : Type 1} → statement M
-number-2-spec = tie.close (tie.spec returns shared-slice-read-result cast-result mul-result shared-slice-read-result-2 cast-result-2 add-result returns-2)
+number-2-spec = tie.close (tie.spec returns two-requires returns-2)

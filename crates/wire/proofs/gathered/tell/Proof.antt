@@ -1,0 +1,83 @@
+use mathlib.Core.Path.{refl}
+use native.Mathlib.Omega.{arith}
+use native.Mathlib.Numerals.{add-one}
+use borrow.Author.Needs.{needs}
+use Rattle.model.specs.Object.{kindOf}
+use Rattle.model.proofs.TabledLaws.{fixed-base, fixed-whole}
+use Rattle.wire.specs.Step.{objectOf}
+use Rattle.wire.proofs.ToldLaws.{tells-hops, tells-nothing, tells-latency, tells-etx, tells-other}
+use Rattle.wire.proofs.gathered.tell.Statement.{statement}
+use Rattle.wire.proofs.gathered.tell.Tie as tie
+
+count-requires : tie.Need-count-requires
+count-requires c κs = search needs
+
+shared-slice-read-t8 : tie.Need-shared-slice-read-t8
+unfolding kindOf
+shared-slice-read-t8 c =
+    let start = c .before .before .before .before .before in
+    fixed-base (start .args .header .mctype) 3 (start .args .body .now) (c .before .if1 .taken) (start .pre .1 .1)
+
+cast-t9 : tie.Need-cast-t9
+cast-t9 c = omega (arith, c .shared-slice-known2 .given 1)
+
+add-t10 : tie.Need-add-t10
+add-t10 c = omega (arith, c .shared-slice-known2 .given 1)
+
+returns : tie.Need-returns
+returns c =
+    let start = c .before .before .before .before .before in
+    let o = objectOf (start .args .header) (start .args .body .now) in
+    rw (c .before .before .before .count .ensures) (tells-hops o (start .pre .1 .0) _ _ (add-one _) (c .before .if1 .taken))
+
+returns-2 : tie.Need-returns-2
+returns-2 c =
+    let start = c .before .before .before .before .before .before in
+    let o = objectOf (start .args .header) (start .args .body .now) in
+    rw (c .before .before .before .before .count .ensures) (tells-nothing o (start .pre .1 .0) _ (c .before .before .if1 .left) (c .if2 .taken) (omega arith))
+
+four-requires : tie.Need-four-requires
+unfolding kindOf
+four-requires c κs =
+    let start = c .before .before .before .before .before .before .before .before in
+    fixed-whole (start .args .header .mctype) 5 (start .args .body .now) (c .if3 .taken) refl (start .pre .1 .1)
+
+returns-3 : tie.Need-returns-3
+returns-3 c =
+    let start = c .before .before .before .before .before .before .before .before .before in
+    let o = objectOf (start .args .header) (start .args .body .now) in
+    rw (c .before .before .before .before .before .before .before .count .ensures) (tells-latency o (start .pre .1 .0) _ _ (c .four .ensures) (c .before .if3 .taken) (c .before .before .before .if2 .left))
+
+two-requires : tie.Need-two-requires
+unfolding kindOf
+two-requires c κs =
+    let start = c .before .before .before .before .before .before .before .before .before .before in
+    fixed-whole (start .args .header .mctype) 7 (start .args .body .now) (c .if4 .taken) refl (start .pre .1 .1)
+
+returns-4 : tie.Need-returns-4
+returns-4 c =
+    let start = c .before .before .before .before .before .before .before .before .before .before .before in
+    let o = objectOf (start .args .header) (start .args .body .now) in
+    rw (c .before .before .before .before .before .before .before .before .before .count .ensures) (tells-etx o (start .pre .1 .0) _ _ (c .two .ensures) (c .before .if4 .taken) (c .before .before .before .before .before .if2 .left))
+
+returns-5 : tie.Need-returns-5
+returns-5 c =
+    let start = c .before .before .before .before .before .before .before .before .before .before in
+    let o = objectOf (start .args .header) (start .args .body .now) in
+    rw (c .before .before .before .before .before .before .before .before .count .ensures) (tells-other o (start .pre .1 .0) _ (c .before .before .before .before .before .before .if1 .left) (c .before .before .if3 .left) (c .if4 .left))
+
+pub tell-spec : {M : Type 1} → statement M
+tell-spec =
+    tie.close
+    (tie.spec
+    count-requires
+    shared-slice-read-t8
+    cast-t9
+    add-t10
+    returns
+    returns-2
+    four-requires
+    returns-3
+    two-requires
+    returns-4
+    returns-5)
