@@ -70,6 +70,43 @@ const BARS: &[(&str, u8, u16)] = &[
     ("02 06 06 02 00 02 00 3F", 19, 0),
     ("02 06 07 02 00 02 00 80", 10, NO_PLACE),
     ("02 06 07 02 00 02 00 7F", 19, 0),
+    // sums, 500 + 1000 and 457 + 128: the metric stands before the limit or behind it
+    (
+        "02 10 05 00 00 04 00 00 01 F4 05 02 00 04 00 00 05 DC",
+        10,
+        NO_PLACE,
+    ),
+    (
+        "02 10 05 00 00 04 00 00 01 F4 05 02 00 04 00 00 05 DB",
+        19,
+        1,
+    ),
+    (
+        "02 10 05 02 00 04 00 00 05 DB 05 00 00 04 00 00 01 F4",
+        19,
+        0,
+    ),
+    ("02 0C 07 02 00 02 02 49 07 00 00 02 01 C9", 10, NO_PLACE),
+    ("02 0C 07 02 00 02 02 48 07 00 00 02 01 C9", 19, 0),
+    ("02 0C 07 03 00 02 02 48 07 00 00 02 01 C9", 10, NO_PLACE),
+    // past the maximum it is the whole sum
+    ("02 0C 07 00 00 02 FF 7F 07 02 00 02 FF FF", 10, NO_PLACE),
+    ("02 0C 07 00 00 02 FF 80 07 02 00 02 FF FF", 19, 1),
+    (
+        "02 10 05 00 00 04 FF FF FC 18 05 02 00 04 FF FF FF FF",
+        19,
+        1,
+    ),
+    // the link alone beside the larger, the smaller, what is recorded, and a sum of another type
+    ("02 0C 07 00 10 02 01 C9 07 02 00 02 00 80", 10, NO_PLACE),
+    ("02 0C 07 00 20 02 01 C9 07 02 00 02 00 80", 10, NO_PLACE),
+    ("02 0C 07 00 80 02 01 C9 07 02 00 02 00 80", 10, NO_PLACE),
+    ("02 0C 07 00 20 02 00 01 07 02 00 02 00 7F", 19, 1),
+    (
+        "02 0E 07 00 00 02 01 C9 05 02 00 04 00 00 03 E8",
+        10,
+        NO_PLACE,
+    ),
 ];
 
 pub fn hold(trial: &mut Trial) {

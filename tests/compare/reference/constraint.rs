@@ -1,5 +1,6 @@
 //! When a constraint of a known type is met.
 
+use super::container::Container;
 use super::data::{Neighbour, AGGREGATOR, OVERLOADED};
 use super::object::{Object, ETX, HP, LATENCY, LQL, NE, NSA, THROUGHPUT};
 
@@ -7,22 +8,34 @@ use super::object::{Object, ETX, HP, LATENCY, LQL, NE, NSA, THROUGHPUT};
 const INCLUDED: u8 = 0x08;
 const ESTIMATED: u8 = 0x01;
 
-/// Whether the neighbour meets a known constraint of a well-formed container; `hops` is the count
-/// of the same container's HP metric. What is unknown meets no limit.
-pub fn met(constraint: &Object, neighbour: &Neighbour, hops: Option<u8>) -> bool {
+/// Whether the neighbour meets a known constraint of a well-formed container. What is unknown
+/// meets no limit.
+pub fn met(constraint: &Object, neighbour: &Neighbour, container: &Container) -> bool {
     let body = constraint.body;
     match constraint.kind {
         NSA => state_met(body[1], neighbour.flags),
         NE => energy_met(body[0], body[1], neighbour),
-        HP => hops.is_some_and(|count| count < body[1]),
+        HP => container.hops.is_some_and(|count| count < body[1]),
         THROUGHPUT => neighbour
             .throughput()
             .is_some_and(|link| link >= long(body)),
-        LATENCY => neighbour.latency().is_some_and(|link| link <= long(body)),
+        LATENCY => neighbour.latency().is_some_and(|link| {
+            let received = container.sum(LATENCY).map_or(0, long);
+            sum_met(received, link, long(body))
+        }),
         LQL => (1..=body[1] >> 5).contains(&neighbour.lql),
-        ETX => neighbour.etx().is_some_and(|link| link <= word(body)),
+        ETX => neighbour.etx().is_some_and(|link| {
+            let received = container.sum(ETX).map_or(0, word);
+            sum_met(received.into(), link.into(), word(body).into())
+        }),
         _ => true,
     }
+}
+
+/// Whether what is received (0 where nothing is added up) and the link's value are within a limit,
+/// in whole numbers.
+fn sum_met(received: u32, link: u32, limit: u32) -> bool {
+    u64::from(received) + u64::from(link) <= u64::from(limit)
 }
 
 /// The aggregator bit asks for an aggregating neighbour, the overload bit for one not overloaded.

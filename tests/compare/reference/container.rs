@@ -59,6 +59,13 @@ impl<'a> Container<'a> {
         Objects { rest: self.data }
     }
 
+    /// The body of the metric of a type that each node adds its value to, if there is one.
+    pub fn sum(&self, kind: u8) -> Option<&'a [u8]> {
+        let mut sums = self.objects().filter(Object::added_up);
+        sums.find(|object| object.kind == kind)
+            .map(|object| object.body)
+    }
+
     /// Reads a container, or gives the first of bars 13 to 17.
     pub fn read(bytes: &'a [u8]) -> Result<Container<'a>, Bar> {
         let data = match bytes {

@@ -15,6 +15,9 @@ pub const OPTIONAL: u8 = 0x01;
 /// Byte 2 of an object header; below it A and Prec.
 pub const RECORDED: u8 = 0x80;
 
+/// The A of an aggregated metric that is a sum.
+const ADD: u8 = 0;
+
 #[derive(Clone, Copy, Debug, PartialEq, Eq)]
 pub enum Usage {
     Constraint,
@@ -52,6 +55,11 @@ impl Object<'_> {
 
     pub fn aggregation(&self) -> u8 {
         self.mode >> 4 & 7
+    }
+
+    /// Whether it is a metric that each node adds its value to.
+    pub fn added_up(&self) -> bool {
+        self.usage() == Usage::Aggregated && self.aggregation() == ADD
     }
 
     pub fn precedence(&self) -> u8 {

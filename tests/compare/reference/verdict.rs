@@ -48,7 +48,7 @@ fn first_unmet(container: &Container, neighbour: &Neighbour) -> Option<Bar> {
         if !object.known() {
             return Some(Bar::at(18, place));
         }
-        if !met(&object, neighbour, container.hops) {
+        if !met(&object, neighbour, container) {
             return Some(Bar::at(19, place));
         }
     }
