@@ -25,8 +25,8 @@ impl Maker<'_> {
                     smooth: self.counted && self.hops < 255,
                 }
             }
-            4 => self.link_limit(link.throughput(), true),
-            5 => self.link_limit(link.latency(), false),
+            4 => self.throughput_asked(),
+            5 => self.sum_limit(5, link.latency(), u32::MAX),
             6 => {
                 let val = self.bound(Some(link.lql.into()), 7, false, 0) as u8;
                 let counter = self.random.byte() & 31;
@@ -35,21 +35,41 @@ impl Maker<'_> {
                     smooth: link.lql > 0,
                 }
             }
-            _ => {
-                let limit = self.bound(link.etx().map(u32::from), 65535, false, 0) as u16;
-                Body {
-                    bytes: limit.to_be_bytes().to_vec(),
-                    smooth: link.etx().is_some(),
-                }
-            }
+            _ => self.sum_limit(7, link.etx().map(u32::from), 65535),
         }
     }
 
-    fn link_limit(&mut self, value: Option<u32>, least: bool) -> Body {
-        let limit = self.bound(value, u32::MAX, least, 0);
+    fn throughput_asked(&mut self) -> Body {
+        let link = self.link.throughput();
+        let limit = self.bound(link, u32::MAX, true, 0);
         Body {
             bytes: limit.to_be_bytes().to_vec(),
-            smooth: value.is_some(),
+            smooth: link.is_some(),
+        }
+    }
+
+    /// A limit on latency or ETX, beside the link's value or beside the sum. What the sum meets
+    /// the link's value meets too, should there be no such metric.
+    fn sum_limit(&mut self, kind: u8, link: Option<u32>, most: u32) -> Body {
+        let received = self.added(kind).unwrap_or(0);
+        let beside = match self.random.below(2) {
+            0 => link,
+            _ => link.map(|link| link.saturating_add(received).min(most)),
+        };
+        let limit = self.bound(beside, most, false, 0);
+        let met = |link| u64::from(received) + u64::from(link) <= u64::from(limit);
+        Body {
+            bytes: limit.to_be_bytes()[4 - unit(kind)..].to_vec(),
+            smooth: link.is_some_and(met),
+        }
+    }
+
+    /// What a latency or ETX metric of the container holds if it is to be a sum.
+    pub fn added(&self, kind: u8) -> Option<u32> {
+        match kind {
+            5 => self.latency,
+            7 => self.etx,
+            _ => None,
         }
     }
 
@@ -131,10 +151,10 @@ impl Maker<'_> {
                 bytes: vec![self.random.byte(), self.hops],
                 smooth: self.hops < 255,
             },
-            4 => self.link_total(link.throughput(), link.throughput, a),
-            5 => self.link_total(link.latency(), link.latency, a),
+            4 => self.link_total(4, link.throughput(), link.throughput, a),
+            5 => self.link_total(5, link.latency(), link.latency, a),
             _ => {
-                let value = self.turning(link.etx.into(), 65535) as u16;
+                let value = self.received(7, link.etx.into(), 65535) as u16;
                 Body {
                     bytes: value.to_be_bytes().to_vec(),
                     smooth: link.etx().is_some(),
@@ -143,11 +163,19 @@ impl Maker<'_> {
         }
     }
 
-    fn link_total(&mut self, known: Option<u32>, value: u32, a: u8) -> Body {
-        let total = self.turning(value, u32::MAX);
+    fn link_total(&mut self, kind: u8, known: Option<u32>, value: u32, a: u8) -> Body {
+        let total = self.received(kind, value, u32::MAX);
         Body {
             bytes: total.to_be_bytes().to_vec(),
             smooth: known.is_some() && (a != 0 || total.checked_add(value).is_some()),
+        }
+    }
+
+    /// What the metric of a link's value holds: what is to be added up, or any value.
+    fn received(&mut self, kind: u8, local: u32, most: u32) -> u32 {
+        match self.added(kind) {
+            Some(value) => value,
+            None => self.turning(local, most),
         }
     }
 
@@ -158,6 +186,15 @@ impl Maker<'_> {
             1 => self.random.near(most - local, most),
             2 => self.random.pick(&[0, 1, most - 1, most]),
             _ => self.random.next() as u32 & most,
+        }
+    }
+
+    /// A received value to be added up, often one whose sum fits; or none, and A is not 0.
+    pub fn addend(&mut self, local: u32, most: u32) -> Option<u32> {
+        match self.random.below(4) {
+            0 => Some(self.turning(local, most)),
+            1 => Some(self.random.within(0, (most - local) as usize) as u32),
+            _ => None,
         }
     }
 

@@ -27,6 +27,9 @@ pub struct Maker<'a> {
     pub hops: u8,
     /// Whether the container is to have an HP metric.
     pub counted: bool,
+    /// What a latency and an ETX metric hold if they are to be sums, which limits stand near.
+    pub latency: Option<u32>,
+    pub etx: Option<u32>,
 }
 
 impl<'a> Maker<'a> {
@@ -38,14 +41,19 @@ impl<'a> Maker<'a> {
     ) -> Maker<'a> {
         let plain = random.byte();
         let hops = random.pick(&[0, 1, 3, 4, 253, 254, 254, 255, plain, plain]);
-        Maker {
+        let mut maker = Maker {
             random,
             scene,
             own,
             link,
             hops,
             counted: false,
-        }
+            latency: None,
+            etx: None,
+        };
+        maker.latency = maker.addend(link.latency, u32::MAX);
+        maker.etx = maker.addend(link.etx.into(), 65535);
+        maker
     }
 
     /// A known type and a role that it can have.
@@ -57,6 +65,16 @@ impl<'a> Maker<'a> {
             _ => &[Role::Constraint, Role::Aggregated, Role::Recorded],
         };
         (kind, self.random.pick(roles))
+    }
+
+    /// A metric beside a limit on latency or ETX: mostly of its type and aggregated.
+    pub fn metric_beside(&mut self, kind: u8) -> (u8, Role) {
+        let other = if kind == 5 { 7 } else { 5 };
+        match self.random.below(6) {
+            0 => (other, Role::Aggregated),
+            1 => (kind, Role::Recorded),
+            _ => (kind, Role::Aggregated),
+        }
     }
 
     /// A well-formed object of a known type; one that does not fit the room is left out by the
@@ -162,15 +180,20 @@ impl<'a> Maker<'a> {
         }
     }
 
-    /// A value of A: one allowed for the type where metrics are to be updated, else any.
+    /// A value of A: one allowed for the type where metrics are to be updated, else any; but a
+    /// latency or ETX that is to be a sum has A=0.
     fn aggregation(&mut self, kind: u8) -> u8 {
+        if self.added(kind).is_some() {
+            return 0;
+        }
         if !self.scene.passing && self.random.once_in(3) {
             return self.random.below(8) as u8;
         }
         match kind {
             1 | 2 => self.random.pick(&[1, 2]),
             3 => 0,
-            _ => self.random.below(3) as u8,
+            4 => self.random.below(3) as u8,
+            _ => self.random.pick(&[1, 2]),
         }
     }
 }

@@ -30,21 +30,15 @@ fn mixed(random: &mut Random, scene: &Scene, own: &Own, link: &Neighbour) -> Vec
         Length::Medium => random.within(2, 9),
         Length::Full => random.within(1, 14),
     };
-    let hops_at = random.below(2 * objects + 1);
     let mut maker = Maker::new(random, scene, own, link);
-    maker.counted = hops_at < objects;
     let mut data = Vec::with_capacity(MOST);
     let mut used = [false; 16];
-    for step in 0..objects {
+    for settled in settle(&mut maker, objects) {
         let unknown = scene.unknown != Unknown::Absent && maker.random.once_in(4);
-        let object = if unknown && step != hops_at {
+        let object = if unknown && settled.is_none() {
             maker.unknown(MOST - data.len())
         } else {
-            let (kind, role) = if step == hops_at {
-                (3, Role::Aggregated)
-            } else {
-                maker.kind_and_role()
-            };
+            let (kind, role) = settled.unwrap_or_else(|| maker.kind_and_role());
             let use_mark = usize::from(kind) + 8 * usize::from(role == Role::Constraint);
             if std::mem::replace(&mut used[use_mark], true) {
                 continue;
@@ -60,6 +54,25 @@ fn mixed(random: &mut Random, scene: &Scene, own: &Own, link: &Neighbour) -> Vec
         maker.pad(&mut data, MOST - spare);
     }
     data
+}
+
+/// The types and roles that are settled for so many objects: often a limit on latency or ETX with
+/// a metric before it or behind it, and often an HP metric.
+fn settle(maker: &mut Maker, objects: usize) -> Vec<Option<(u8, Role)>> {
+    let mut settled = vec![None; objects];
+    if objects > 1 && maker.random.once_in(3) {
+        let kind = maker.random.pick(&[5, 7]);
+        let limit_at = maker.random.below(objects);
+        let metric_at = (limit_at + maker.random.within(1, objects - 1)) % objects;
+        settled[limit_at] = Some((kind, Role::Constraint));
+        settled[metric_at] = Some(maker.metric_beside(kind));
+    }
+    let hops_at = maker.random.below(2 * objects + 1);
+    if let Some(free @ None) = settled.get_mut(hops_at) {
+        *free = Some((3, Role::Aggregated));
+        maker.counted = true;
+    }
+    settled
 }
 
 /// Sixty-odd objects of unknown type and no body: as many as a container holds.
