@@ -15,11 +15,11 @@ pub fn objects(container: &[u8]) -> Option<Vec<&[u8]>> {
     Some(objects)
 }
 
-fn is_constraint(object: &[u8]) -> bool {
+pub fn is_constraint(object: &[u8]) -> bool {
     object[1] & 2 == 2
 }
 
-fn is_recorded(object: &[u8]) -> bool {
+pub fn is_recorded(object: &[u8]) -> bool {
     !is_constraint(object) && object[2] & 0x80 == 0x80
 }
 
@@ -41,9 +41,13 @@ pub fn tlvs(object: &[u8]) -> &[u8] {
     }
 }
 
-/// Unknown type, C=1 and O=0.
+/// C=1 and O=0.
+pub fn is_mandatory(object: &[u8]) -> bool {
+    object[1] & 3 == 2
+}
+
 pub fn is_unknown_mandatory(object: &[u8]) -> bool {
-    is_unknown(object) && object[1] & 3 == 2
+    is_unknown(object) && is_mandatory(object)
 }
 
 /// The container without unknown objects and TLVs, its lengths set anew.

@@ -8,6 +8,7 @@ mod examples;
 mod generate;
 mod guarded;
 mod library;
+mod limits;
 mod pairs;
 mod random;
 mod reference;

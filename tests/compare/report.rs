@@ -1,10 +1,13 @@
 //! How often each number was given, and whether that is often enough.
 
 use super::compare::Listed;
+use super::generate::Call;
+use super::limits::Limits;
 use super::pairs::Sort;
 use super::reference::data::Answer;
 
-/// Every number is to be given so often, and every sort of pair to be tried so often.
+/// Every number is to be given so often, every sort of limit and every sort of pair to be tried so
+/// often.
 const LEAST: u64 = 100;
 const LEAST_PAIRS: u64 = 5000;
 
@@ -35,6 +38,7 @@ pub struct Report {
     leaves: [u64; 256],
     listings: [u64; 256],
     without_room: u64,
+    limits: Limits,
     pairs: Pairs,
 }
 
@@ -47,13 +51,14 @@ impl Report {
             leaves: [0; 256],
             listings: [0; 256],
             without_room: 0,
+            limits: Limits::default(),
             pairs: Pairs::default(),
         }
     }
 
     /// Notes an answer of the library. A leaf number counts where there is a parent, a verdict
     /// where the call is not refused.
-    pub fn choice(&mut self, answer: &Answer) {
+    pub fn choice(&mut self, call: &Call, answer: &Answer) {
         self.calls += 1;
         self.refusals[usize::from(answer.refusal)] += 1;
         if answer.refusal == 0 {
@@ -64,6 +69,7 @@ impl Report {
         if answer.parent != 255 {
             self.leaves[usize::from(answer.leaf)] += 1;
         }
+        self.limits.note(call, answer);
     }
 
     /// Notes a listing of the library: the number that it was refused with, or 0.
@@ -97,7 +103,7 @@ impl Report {
         print_counts("leaf", &LEAVES, &self.leaves);
         print_counts("listing refused", &LISTINGS, &self.listings);
         println!("listing without room: {}", self.without_room);
-        for (name, count) in self.sorts() {
+        for (name, count) in self.limits.counts().into_iter().chain(self.sorts()) {
             println!("{name}: {count}");
         }
     }
@@ -135,6 +141,11 @@ impl Report {
         }
         if self.without_room < LEAST {
             lines.push(format!("fewer than {LEAST} listings had too little room"));
+        }
+        for (name, count) in self.limits.counts() {
+            if count < LEAST {
+                lines.push(format!("{name}: fewer than {LEAST}"));
+            }
         }
         for (name, count) in self.sorts() {
             if count < LEAST_PAIRS {
