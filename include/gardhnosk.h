@@ -98,7 +98,8 @@ typedef struct {
 
 /*
  * What is known of a neighbour and of the link to it. The rank grows by rf x sp + sr units of MinHopRankIncrease (RFC 6552,
- * section 4.1); with that RFC's defaults, sp 3, rf 1 and sr 0, a hop is three units.
+ * section 4.1); with that RFC's defaults, sp 3, rf 1 and sr 0, a hop is three units. A limit on ETX or latency in a container is tested
+ * against the link's value plus what the same container has added up on the way; where it adds up none, against the link's value.
  */
 typedef struct {
     uint16_t rank;       /* the rank that it advertised */
