@@ -23,10 +23,10 @@ use Rattle.wire.specs.Gathered.{toldIn, toldBy}
 -- ---- objects that tell nothing
 
 -- of another type
-pub no-hops : (o : Object) → (o .type ≡ 3 → ⊥) → countsHops o ≡ false
+no-hops : (o : Object) → (o .type ≡ 3 → ⊥) → countsHops o ≡ false
 no-hops o n = rw (hp-type (o .type), ne-eqb (o .type) 3 n)
 
-pub no-adds : (s : Scalar) (o : Object) → (o .type ≡ typeOf s → ⊥) → addsUp s o ≡ false
+no-adds : (s : Scalar) (o : Object) → (o .type ≡ typeOf s → ⊥) → addsUp s o ≡ false
 no-adds s o n = rw (ne-eqb (o .type) (typeOf s) n)
 
 -- of another role
@@ -104,42 +104,24 @@ module _ (o : Object) (r : role o ≡ aggregated) where
   below : (s : Scalar) → o .type ≡ typeOf s → o .mode ≤ 15 → addsUp s o ≡ true
   below s t l = rw (eq-eqb (o .type) (typeOf s) t, r, eq-eqb (o .mode / 16 % 8) 0 (omega arith))
 
-  module _ (g : Gathered) where
-    pub tells-hops : (n : ℕ) → n ≡ suc (getD (o .body) 1 0) → o .type ≡ 3 → record {
-      number = g .number;
-      place = g .place;
-      seen = g .seen;
-      hops = n;
-      latency = g .latency;
-      etx = g .etx;
-      flags = g .flags;
-    } ≡ toldBy g o
-    tells-hops n e t = rw (e, is-hops t, no-adds latency o (λ q. omega arith), no-adds etx o (λ q. omega arith))
+  -- each number as the object tells it, or as before
+  pub hops-told : (n v : ℕ) → n ≡ suc (getD (o .body) 1 0) → o .type ≡ 3 → n ≡ cond (countsHops o) (suc (getD (o .body) 1 0)) v
+  hops-told n v e t = rw (is-hops t) e
 
-    pub tells-nothing : (o .type ≡ 3 → ⊥) → 15 < o .mode → o .mode < 256 → g ≡ toldBy g o
-    tells-nothing n l h = rw (no-hops o n, above latency l h, above etx l h)
+  pub sum-told : (s : Scalar) (n v : ℕ) → n ≡ number (o .body) → o .type ≡ typeOf s → o .mode ≤ 15 → n ≡ cond (addsUp s o) (number (o .body)) v
+  sum-told s n v e t l = rw (below s t l) e
 
-    pub tells-latency : (n : ℕ) → n ≡ number (o .body) → o .type ≡ 5 → o .mode ≤ 15 → record {
-      number = g .number;
-      place = g .place;
-      seen = g .seen;
-      hops = g .hops;
-      latency = n;
-      etx = g .etx;
-      flags = g .flags;
-    } ≡ toldBy g o
-    tells-latency n e t l = rw (e, below latency t l, no-hops o (λ q. omega arith), no-adds etx o (λ q. omega arith))
+  pub above-kept : (s : Scalar) (v : ℕ) → 15 < o .mode → o .mode < 256 → v ≡ cond (addsUp s o) (number (o .body)) v
+  above-kept s v l h = rw (above s l h)
 
-    pub tells-etx : (n : ℕ) → n ≡ number (o .body) → o .type ≡ 7 → o .mode ≤ 15 → record {
-      number = g .number;
-      place = g .place;
-      seen = g .seen;
-      hops = g .hops;
-      latency = g .latency;
-      etx = n;
-      flags = g .flags;
-    } ≡ toldBy g o
-    tells-etx n e t l = rw (e, below etx t l, no-hops o (λ q. omega arith), no-adds latency o (λ q. omega arith))
+module _ (o : Object) where
+  pub hops-kept : (v : ℕ) → (o .type ≡ 3 → ⊥) → v ≡ cond (countsHops o) (suc (getD (o .body) 1 0)) v
+  hops-kept v n = rw (no-hops o n)
 
-    pub tells-other : (o .type ≡ 3 → ⊥) → (o .type ≡ 5 → ⊥) → (o .type ≡ 7 → ⊥) → g ≡ toldBy g o
-    tells-other h l x = rw (no-hops o h, no-adds latency o l, no-adds etx o x)
+  pub sum-kept : (s : Scalar) (v : ℕ) → (o .type ≡ typeOf s → ⊥) → v ≡ cond (addsUp s o) (number (o .body)) v
+  sum-kept s v n = rw (no-adds s o n)
+
+  -- all of them
+  pub tells : (g : Gathered) (h l x : ℕ) → h ≡ toldBy g o .hops → l ≡ toldBy g o .latency → x ≡ toldBy g o .etx
+      → record { number = g .number; place = g .place; seen = g .seen; hops = h; latency = l; etx = x; flags = g .flags } ≡ toldBy g o
+  tells g h l x a b c = rw (a, b, c)

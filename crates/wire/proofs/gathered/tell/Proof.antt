@@ -2,10 +2,10 @@ use mathlib.Core.Path.{refl}
 use native.Mathlib.Omega.{arith}
 use native.Mathlib.Numerals.{add-one}
 use borrow.Author.Needs.{needs}
-use Rattle.model.specs.Object.{kindOf}
+use Rattle.model.specs.Object.{kindOf, latency, etx}
 use Rattle.model.proofs.TabledLaws.{fixed-base, fixed-whole}
 use Rattle.wire.specs.Step.{objectOf}
-use Rattle.wire.proofs.ToldLaws.{tells-hops, tells-nothing, tells-latency, tells-etx, tells-other}
+use Rattle.wire.proofs.ToldLaws.{hops-told, hops-kept, sum-told, sum-kept, above-kept, tells}
 use Rattle.wire.proofs.gathered.tell.Statement.{statement}
 use Rattle.wire.proofs.gathered.tell.Tie as tie
 
@@ -28,13 +28,18 @@ returns : tie.Need-returns
 returns c =
     let start = c .before .before .before .before .before in
     let o = objectOf (start .args .header) (start .args .body .now) in
-    rw (c .before .before .before .count .ensures) (tells-hops o (start .pre .1 .0) _ _ (add-one _) (c .before .if1 .taken))
+    let t = c .before .if1 .taken in
+    rw (c .before .before .before .count .ensures)
+    (tells o _ _ _ _ (hops-told o (start .pre .1 .0) _ _ (add-one _) t) (sum-kept o latency _ (λ q. omega arith)) (sum-kept o etx _ (λ q. omega arith)))
 
 returns-2 : tie.Need-returns-2
 returns-2 c =
     let start = c .before .before .before .before .before .before in
     let o = objectOf (start .args .header) (start .args .body .now) in
-    rw (c .before .before .before .before .count .ensures) (tells-nothing o (start .pre .1 .0) _ (c .before .before .if1 .left) (c .if2 .taken) (omega arith))
+    let plain = start .pre .1 .0 in
+    let l = c .if2 .taken in
+    rw (c .before .before .before .before .count .ensures)
+    (tells o _ _ _ _ (hops-kept o _ (c .before .before .if1 .left)) (above-kept o plain latency _ l (omega arith)) (above-kept o plain etx _ l (omega arith)))
 
 four-requires : tie.Need-four-requires
 unfolding kindOf
@@ -46,7 +51,10 @@ returns-3 : tie.Need-returns-3
 returns-3 c =
     let start = c .before .before .before .before .before .before .before .before .before in
     let o = objectOf (start .args .header) (start .args .body .now) in
-    rw (c .before .before .before .before .before .before .before .count .ensures) (tells-latency o (start .pre .1 .0) _ _ (c .four .ensures) (c .before .if3 .taken) (c .before .before .before .if2 .left))
+    let t = c .before .if3 .taken in
+    let received = sum-told o (start .pre .1 .0) latency _ _ (c .four .ensures) t (c .before .before .before .if2 .left) in
+    rw (c .before .before .before .before .before .before .before .count .ensures)
+    (tells o _ _ _ _ (hops-kept o _ (λ q. omega arith)) received (sum-kept o etx _ (λ q. omega arith)))
 
 two-requires : tie.Need-two-requires
 unfolding kindOf
@@ -58,13 +66,17 @@ returns-4 : tie.Need-returns-4
 returns-4 c =
     let start = c .before .before .before .before .before .before .before .before .before .before .before in
     let o = objectOf (start .args .header) (start .args .body .now) in
-    rw (c .before .before .before .before .before .before .before .before .before .count .ensures) (tells-etx o (start .pre .1 .0) _ _ (c .two .ensures) (c .before .if4 .taken) (c .before .before .before .before .before .if2 .left))
+    let t = c .before .if4 .taken in
+    let received = sum-told o (start .pre .1 .0) etx _ _ (c .two .ensures) t (c .before .before .before .before .before .if2 .left) in
+    rw (c .before .before .before .before .before .before .before .before .before .count .ensures)
+    (tells o _ _ _ _ (hops-kept o _ (λ q. omega arith)) (sum-kept o latency _ (λ q. omega arith)) received)
 
 returns-5 : tie.Need-returns-5
 returns-5 c =
     let start = c .before .before .before .before .before .before .before .before .before .before in
     let o = objectOf (start .args .header) (start .args .body .now) in
-    rw (c .before .before .before .before .before .before .before .before .count .ensures) (tells-other o (start .pre .1 .0) _ (c .before .before .before .before .before .before .if1 .left) (c .before .before .if3 .left) (c .if4 .left))
+    rw (c .before .before .before .before .before .before .before .before .count .ensures)
+    (tells o _ _ _ _ (hops-kept o _ (c .before .before .before .before .before .before .if1 .left)) (sum-kept o latency _ (c .before .before .if3 .left)) (sum-kept o etx _ (c .if4 .left)))
 
 pub tell-spec : {M : Type 1} → statement M
 tell-spec =
