@@ -65,42 +65,21 @@ fn tell(g: Gathered, header: Header, flags: u32, body: &[u8]) -> Gathered
     requires { ⌜ fixedShape (row (kindOf (header .mctype))) (now body) ≡ true ⌝ }
     ensures { λ r. ⌜ r ≡ toldBy (counted g 0 (withUse (g .seen) (objectOf header [])) flags) (objectOf header (now (body .entry))) ⌝ }
 {
-    let more = count(g, header, flags, 0);
+    let mut more = count(g, header, flags, 0);
     if header.mctype == 3 {
-        return Gathered {
-            number: 0,
-            place: more.place,
-            seen: more.seen,
-            hops: body[1] as u16 + 1,
-            latency: g.latency,
-            etx: g.etx,
-            flags,
-        };
+        more.hops = body[1] as u16 + 1;
+        return more;
     }
     if 15 < header.mode {
         return more;
     }
     if header.mctype == 5 {
-        return Gathered {
-            number: 0,
-            place: more.place,
-            seen: more.seen,
-            hops: g.hops,
-            latency: numbers::four(body),
-            etx: g.etx,
-            flags,
-        };
+        more.latency = numbers::four(body);
+        return more;
     }
     if header.mctype == 7 {
-        return Gathered {
-            number: 0,
-            place: more.place,
-            seen: more.seen,
-            hops: g.hops,
-            latency: g.latency,
-            etx: numbers::two(body),
-            flags,
-        };
+        more.etx = numbers::two(body);
+        return more;
     }
     more
 }

@@ -12,17 +12,17 @@ use Rattle.wire.proofs.gathered.tell.Tie as tie
 count-requires : tie.Need-count-requires
 count-requires c κs = search needs
 
-shared-slice-read-t8 : tie.Need-shared-slice-read-t8
+shared-slice-read-more : tie.Need-shared-slice-read-more
 unfolding kindOf
-shared-slice-read-t8 c =
+shared-slice-read-more c =
     let start = c .before .before .before .before .before in
     fixed-base (start .args .header .mctype) 3 (start .args .body .now) (c .before .if1 .taken) (start .pre .1 .1)
 
-cast-t9 : tie.Need-cast-t9
-cast-t9 c = omega (arith, c .shared-slice-known2 .given 1)
+cast-more : tie.Need-cast-more
+cast-more c = omega (arith, c .shared-slice-known2 .given 1)
 
-add-t10 : tie.Need-add-t10
-add-t10 c = omega (arith, c .shared-slice-known2 .given 1)
+add-more : tie.Need-add-more
+add-more c = omega (arith, c .shared-slice-known2 .given 1)
 
 returns : tie.Need-returns
 returns c =
@@ -83,9 +83,9 @@ tell-spec =
     tie.close
     (tie.spec
     count-requires
-    shared-slice-read-t8
-    cast-t9
-    add-t10
+    shared-slice-read-more
+    cast-more
+    add-more
     returns
     returns-2
     four-requires
