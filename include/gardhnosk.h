@@ -98,8 +98,11 @@ typedef struct {
 
 /*
  * What is known of a neighbour and of the link to it. The rank grows by rf x sp + sr units of MinHopRankIncrease (RFC 6552,
- * section 4.1); with that RFC's defaults, sp 3, rf 1 and sr 0, a hop is three units. A limit on ETX or latency in a container is tested
- * against the link's value plus what the same container has added up on the way; where it adds up none, against the link's value.
+ * section 4.1); with that RFC's defaults, sp 3, rf 1 and sr 0, a hop is three units.
+ *
+ * A mandatory limit on ETX or latency in a container is met where the link's value is known and, together with what the same container
+ * has added up on the way (a metric of that type with R=0 and A=0; 0 where it has none), at most the limit: in whole numbers, before
+ * an ETX stops at 65535. A link whose value is not known meets no limit: GARDHNOSK_BAR_UNMET.
  */
 typedef struct {
     uint16_t rank;       /* the rank that it advertised */
