@@ -10,15 +10,15 @@ use Rattle.model.specs.declared.Quantity.the-variants.{Known, Unknown}
 use Rattle.model.specs.declared.Summary.{Summary}
 use Rattle.model.specs.declared.Neighbour.{Neighbour}
 use Rattle.model.specs.Number.{number, anyOf, _when_, firstCase, firstOf}
-use Rattle.model.specs.Object.{Object, bitC, standings, Kind, unknown, lql, node, scalar, nsa, ne, hp, Scalar, throughput, latency, etx, typeOf, kindOf, known, kind, Role, constraint, recorded, aggregated, role}
+use Rattle.model.specs.Object.{Object, bitC, standings, Kind, unknown, lql, node, scalar, nsa, ne, hp, Scalar, throughput, latency, etx, typeOf, known, kind, Role, constraint, recorded, aggregated, role}
 use Rattle.model.specs.Table.{row}
 use Rattle.model.specs.Reading.{tlvsUpTo, tlvsFit, fixedShape, shaped, sameUse, objectBar}
 use Rattle.model.specs.Constraint.{fromFirst, countsHops, addsUp, pathValue, summary, met, mandatory, unknownMandatory, constraintBar}
 use Rattle.model.specs.Cut.{mayHaveTlvs, cutBody, cutObject, keepIf, cut}
 use Rattle.model.proofs.BoolLaws.{neither, or-left, or-middle}
-use Rattle.model.proofs.TypeLaws.{tlv-types}
+use Rattle.model.proofs.TypeLaws.{tlv-types, unknown-hops, unknown-adds}
 use Rattle.model.proofs.TabledLaws.{bar-free}
-use Rattle.model.proofs.SummaryLaws.{hops-use, adds-use}
+use Rattle.model.proofs.SummaryLaws.{adds-use}
 use Rattle.model.proofs.NumberLaws.{first-zero, isGiven, given-first, given-none}
 
 -- ---- the cut of a body and of a list
@@ -147,31 +147,17 @@ unknown-kind (scalar s) e = cc
 
 -- what the first object with a property tells, where the cut keeps those that have it and what they tell
 fromFirst-cut : {A : Type 0} (d : A) (p : Object → Bool) (f : Object → A) → ((o : Object) → p (cutObject o) ≡ p o) → ((o : Object) → p o ≡ true → f (cutObject o) ≡ f o)
-    → ((o : Object) → p o ≡ true → known (kind o) ≡ true) → (os : List Object) → fromFirst d p f (cut os) ≡ fromFirst d p f os
+    → ((o : Object) → known (kind o) ≡ false → p o ≡ false) → (os : List Object) → fromFirst d p f (cut os) ≡ fromFirst d p f os
 unfolding fromFirst cut
-fromFirst-cut d p f same tells stays [] = refl
-fromFirst-cut d p f same tells stays (o ∷ os) = go (known (kind o)) (p o) refl refl (fromFirst-cut d p f same tells stays os)
+fromFirst-cut d p f same tells goes [] = refl
+fromFirst-cut d p f same tells goes (o ∷ os) = go (known (kind o)) (p o) refl refl (fromFirst-cut d p f same tells goes os)
   where
     go : (b t : Bool) → known (kind o) ≡ b → p o ≡ t → fromFirst d p f (cut os) ≡ fromFirst d p f os
         → fromFirst d p f (keepIf b (cutObject o) (cut os)) ≡ cond t (f o) (fromFirst d p f os)
     go true true k e ih = rw (same o, e, tells o e)
     go true false k e ih = rw (same o, e, ih)
-    go false true k e ih = absurd (true≢false (sym (stays o e) ∙ k))
+    go false true k e ih = absurd (true≢false (sym e ∙ goes o k))
     go false false k e ih = ih
-
--- an HP metric, and one that adds up, are of known type
-hops-known : (o : Object) → countsHops o ≡ true → known (kind o) ≡ true
-unfolding kindOf
-hops-known o e = rw (hops-use o e .0)
-
-pub adds-known : (s : Scalar) (o : Object) → addsUp s o ≡ true → known (kind o) ≡ true
-unfolding kindOf
-adds-known s o e = rw (adds-use s o e .0) (go s)
-  where
-    go : (s : Scalar) → known (kindOf (typeOf s)) ≡ true
-    go throughput = refl
-    go latency = refl
-    go etx = refl
 
 -- the body of a scalar is whole under the cut
 adds-whole : (s : Scalar) (o : Object) → addsUp s o ≡ true → number (cutObject o .body) ≡ number (o .body)
@@ -183,11 +169,11 @@ adds-whole s o e = rw (adds-use s o e .0) (go s)
     go etx = rw cutBody-whole
 
 pathValue-cut : (s : Scalar) (os : List Object) → pathValue s (cut os) ≡ pathValue s os
-pathValue-cut s = fromFirst-cut 0 (addsUp s) (λ o. number (o .body)) (λ o. refl) (adds-whole s) (adds-known s)
+pathValue-cut s = fromFirst-cut 0 (addsUp s) (λ o. number (o .body)) (λ o. refl) (adds-whole s) (unknown-adds s)
 
 summary-cut : (os : List Object) → summary (cut os) ≡ summary os
 summary-cut os = rw (
-  fromFirst-cut Unknown countsHops (λ o. Known (getD (o .body) 1 0)) (λ o. refl) (λ o e. rw cutBody-byte1) hops-known os,
+  fromFirst-cut Unknown countsHops (λ o. Known (getD (o .body) 1 0)) (λ o. refl) (λ o e. rw cutBody-byte1) unknown-hops os,
   pathValue-cut latency os,
   pathValue-cut etx os,
 )

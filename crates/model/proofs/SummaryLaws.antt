@@ -1,17 +1,17 @@
 -- What objects tell the tests of their container's constraints, where one comes behind others.
 use mathlib.Core.Path.{_≡_, refl, sym, _∙_}
-use Prim.Native.Nat.{ℕ, zero, suc, _/_, _%_, _<_}
+use Prim.Native.Nat.{ℕ, _/_, _%_}
 use native.Mathlib.Omega.{arith}
-use mathlib.Core.Bool.{Bool, true, false, cond, not, _&&_, true≢false, false≢true}
+use mathlib.Core.Bool.{Bool, true, false, cond, not, _&&_, true≢false}
 use mathlib.Core.List.{List, [], _∷_, _++_}
 use lib.Dec.{eqb}
 use borrow.Author.Tests.{eqb-true, eq-eqb}
-use Rattle.model.specs.Number.{anyOf}
+use Rattle.model.specs.Number.{isSet, anyOf}
 use Rattle.model.specs.Object.{Object, bitC, fieldA, Scalar, typeOf, kind, roleOf, role, isConstraint, isAggregated, isHp}
 use Rattle.model.specs.Reading.{sameUse}
 use Rattle.model.specs.Constraint.{fromFirst, countsHops, addsUp}
 use Rattle.model.proofs.BoolLaws.{both, neither}
-use Rattle.model.proofs.TypeLaws.{hp-type, constraint-bit, aggregated-bits}
+use Rattle.model.proofs.TypeLaws.{hp-type, constraint-bit, clear-bit, aggregated-bits}
 
 -- ---- the first object with a property
 
@@ -43,12 +43,8 @@ pub hops-use : OfUse 3 countsHops
 unfolding roleOf
 hops-use o e =
     let (h, m) = both (isHp (kind o)) (not (isConstraint (role o))) e in
-    (eqb-true (o .type) 3 (sym (hp-type (o .type)) ∙ h), go (bitC o) (omega arith) (rw (constraint-bit (o .flags / 2 % 2) (o .mode / 128 % 2) (omega arith)) at m))
-  where
-    go : (b : ℕ) → b < 2 → not (eqb b 1) ≡ true → b ≡ 0
-    go zero l n = refl
-    go (suc zero) l n = absurd (false≢true n)
-    go (suc (suc b)) l n = absurd (omega arith)
+    let c : not (isSet (bitC o)) ≡ true = rw (constraint-bit (o .flags / 2 % 2) (o .mode / 128 % 2) (omega arith)) at m in
+    (eqb-true (o .type) 3 (sym (hp-type (o .type)) ∙ h), eqb-true (bitC o) 0 (sym (clear-bit (bitC o) (omega arith)) ∙ c))
 
 pub adds-use : (s : Scalar) → OfUse (typeOf s) (addsUp s)
 unfolding roleOf

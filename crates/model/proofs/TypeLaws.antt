@@ -1,16 +1,16 @@
--- Types by number: which are known, and which metrics bar 17 refuses.
+-- Types and roles by number: which are known, which metrics bar 17 refuses, which objects tell nothing to the limits of their container.
 use mathlib.Core.Path.{_≡_, refl, sym, _∙_}
 use Prim.Native.Nat.{zero, suc, ℕ, _/_, _%_, _≤_, _<_}
 use native.Mathlib.Omega.{arith}
-use mathlib.Core.Bool.{Bool, true, false, Bool·beq, _&&_, _||_, and-false, false≢true, not}
+use mathlib.Core.Bool.{Bool, true, false, Bool·beq, _&&_, _||_, and-false, false≢true, true≢false, not}
 use lib.ListN.{List·getD-eq-default}
 use lib.Dec.{leb, ltb, eqb}
 use borrow.Author.Tests.{lt-leb, eq-eqb, ne-eqb, ltb-true, ltb-false}
 use Rattle.model.specs.Number.{isSet}
-use Rattle.model.specs.Object.{Object, isConstraint, isAggregated, isHp, Kind, unknown, lql, node, scalar, nsa, ne, hp, throughput, latency, etx, kinds, kindOf, known, roleBits, roleOf}
+use Rattle.model.specs.Object.{Object, kind, isConstraint, isAggregated, isHp, Kind, unknown, lql, node, scalar, nsa, ne, hp, Scalar, throughput, latency, etx, typeOf, kinds, kindOf, known, roleBits, roleOf}
 use Rattle.model.specs.Table.{row}
 use Rattle.model.specs.Reading.{cannotBe}
-use Rattle.model.specs.Constraint.{unknownMandatory}
+use Rattle.model.specs.Constraint.{countsHops, addsUp, unknownMandatory}
 use Rattle.model.specs.Cut.{mayHaveTlvs}
 use Rattle.model.specs.Unknown.{isUnknownMandatory}
 use Rattle.model.specs.Exact.{KnownTypes, TlvTypes, MisusedTypes}
@@ -73,6 +73,31 @@ pub hp-type : (t : ℕ) → isHp (kindOf t) ≡ eqb t 3
 unfolding kindOf
 hp-type = every-type (λ t. isHp (kindOf t)) (λ t. eqb t 3) hp-below (λ t l. rw (List·getD-eq-default kinds unknown l, ne-eqb t 3 (λ q. omega arith)))
 
+-- the type of a scalar is one whose kind it is
+pub scalar-type : (s : Scalar) → kindOf (typeOf s) ≡ scalar s
+unfolding kindOf
+scalar-type throughput = refl
+scalar-type latency = refl
+scalar-type etx = refl
+
+-- ---- an object of another type counts no hops and is not added up
+
+pub no-hops : (o : Object) → (o .type ≡ 3 → ⊥) → countsHops o ≡ false
+no-hops o n = rw (hp-type (o .type), ne-eqb (o .type) 3 n)
+
+pub no-adds : (s : Scalar) (o : Object) → (o .type ≡ typeOf s → ⊥) → addsUp s o ≡ false
+no-adds s o n = rw (ne-eqb (o .type) (typeOf s) n)
+
+-- among them those of unknown type
+pub unknown-hops : (o : Object) → known (kind o) ≡ false → countsHops o ≡ false
+unfolding kindOf
+unknown-hops o u = no-hops o (λ q. true≢false (rw q at u))
+
+pub unknown-adds : (s : Scalar) (o : Object) → known (kind o) ≡ false → addsUp s o ≡ false
+unknown-adds s o u = no-adds s o (λ q. true≢false (rw (q, scalar-type s) at u))
+
+-- ---- bar 17 by numbers
+
 -- a type that no rule names
 no-rule : (t : ℕ) (a b c : Bool) → 8 ≤ t → a && ((eqb t 1 || eqb t 3) && b || eqb t 6 && c) ≡ false
 no-rule t a b c h =
@@ -107,7 +132,7 @@ pub misused-types : MisusedTypes
 unfolding roleOf
 misused-types es o = misused-at (o .type) (o .flags / 2 % 2) (o .mode / 128 % 2) (omega arith) (omega arith)
 
--- ---- an unknown mandatory constraint by numbers
+-- ---- roles by numbers
 
 -- a metric with R=0 has both bits 0
 pub aggregated-bits : (c r : ℕ) → isAggregated (roleBits c r) ≡ eqb c 0 && eqb r 0
@@ -121,14 +146,17 @@ constraint-bit zero zero h = refl
 constraint-bit zero (suc r) h = refl
 constraint-bit (suc c) r h = sym (eq-eqb (suc c) 1 (omega arith))
 
-optional-bit : (o : ℕ) → o < 2 → not (isSet o) ≡ eqb o 0
-optional-bit zero h = refl
-optional-bit (suc o) h = let e : suc o ≡ 1 = omega arith in rw e
+-- a bit that is not 1
+pub clear-bit : (b : ℕ) → b < 2 → not (isSet b) ≡ eqb b 0
+clear-bit zero h = refl
+clear-bit (suc b) h = let e : suc b ≡ 1 = omega arith in rw e
+
+-- ---- an unknown mandatory constraint by numbers
 
 pub unknown-mandatory : (o : Object) → isUnknownMandatory o ≡ unknownMandatory o
 unfolding roleOf
 unknown-mandatory o =
-    rw (known-types (o .type), constraint-bit (o .flags / 2 % 2) (o .mode / 128 % 2) (omega arith), optional-bit (o .flags % 2) (omega arith))
+    rw (known-types (o .type), constraint-bit (o .flags / 2 % 2) (o .mode / 128 % 2) (omega arith), clear-bit (o .flags % 2) (omega arith))
     (turn (not (leb 1 (o .type) && leb (o .type) 7)) (eqb (o .flags / 2 % 2) 1) (eqb (o .flags % 2) 0))
   where
     turn : (a b c : Bool) → a && b && c ≡ b && c && a

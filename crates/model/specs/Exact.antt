@@ -206,11 +206,12 @@ pub record PathLimit (os : List Object) (type bit link limit : ℕ) (isUnmet : B
   -- without one: the link's value is known and at most the limit
   pub link-alone : anyOf (isSummed type) os ≡ false → (isUnmet ≡ false) ↔ ((bit ≡ 1) × (link ≤ limit))
 
--- of latency (type 5) and ETX (type 7), in any well-formed container
+-- of latency (type 5) and ETX (type 7), in any well-formed container; a throughput limit (type 4) is the link's, whatever stands beside it
 abbrev pub PathLimits : Type 0
 PathLimits = (c : Neighbour) (bs : List ℕ) (os : List Object) (l : Object) → reading bs ≡ wellFormed os → bitC l ≡ 1 → bitO l ≡ 0
     → (l .type ≡ 5 → PathLimit os 5 (c .flags / 16 % 2) (c .latency) (number (l .body)) (unmet c (summary os) l))
     × (l .type ≡ 7 → PathLimit os 7 (c .flags / 8 % 2) (c .etx) (number (l .body)) (unmet c (summary os) l))
+    × (l .type ≡ 4 → (unmet c (summary os) l ≡ false) ↔ ((c .flags / 32 % 2 ≡ 1) × (number (l .body) ≤ c .throughput)))
 
 -- ---- leaf answers 31 to 36
 

@@ -3,13 +3,13 @@ use mathlib.Core.Path.{_≡_, refl, sym, subst}
 use Prim.Native.Nat.{ℕ, _+_, _-_, _%_, _≤_, _<_}
 use native.Mathlib.Nat.{mod-zero, mod-one}
 use native.Mathlib.Omega.{arith}
-use mathlib.Core.Bool.{Bool, Bool·beq, true, false, cond, _&&_, _||_, not, false≢true, true≢false}
+use mathlib.Core.Bool.{Bool, Bool·beq, true, false, cond, _&&_, _||_, not, true≢false}
 use mathlib.Core.List.{List, []}
 use lib.ListN.{length, take, drop, length-drop, drop-of-length-le}
 use lib.Seq.{take-all}
 use lib.Dec.{leb, eqb}
 use borrow.Author.Tests.{le-leb, lt-leb, eq-eqb, ne-eqb}
-use Rattle.model.specs.Object.{Kind, unknown, lql, node, scalar, nsa, ne, hp, throughput, latency, etx, kindOf, Role, constraint, recorded, aggregated, roleOf, isConstraint, isRecorded}
+use Rattle.model.specs.Object.{Kind, unknown, lql, node, scalar, nsa, ne, hp, throughput, latency, etx, kindOf, Role, constraint, recorded, aggregated, roleOf, isRecorded}
 use Rattle.model.specs.Table.{row}
 use Rattle.model.specs.Reading.{tlvsFit, fixedShape, recordedShape, shaped, cannotBe, isEmpty}
 use Rattle.model.proofs.TypeLaws.{beq-true, every-kind}
@@ -104,15 +104,6 @@ shaped-fixed h b e = go (roleIn h) e
     go constraint e = refl
     go recorded e = absurd (true≢false e)
     go aggregated e = refl
-
--- a constraint can be of any type
-pub misused-constraint : (h : Header) → isConstraint (roleIn h) ≡ true → false ≡ cannotBe (roleIn h) (row (kindIn h))
-misused-constraint h e = go (roleIn h) e
-  where
-    go : (r : Role) → isConstraint r ≡ true → false ≡ cannotBe r (row (kindIn h))
-    go constraint e = refl
-    go recorded e = absurd (false≢true e)
-    go aggregated e = absurd (false≢true e)
 
 pub misused-recorded : (h : Header) (w : Row) → w ≡ rowFor (h .mctype) → roleIn h ≡ recorded → not (w .records) ≡ cannotBe (roleIn h) (row (kindIn h))
 misused-recorded h w q e = rw e (by-kind (λ w k. not (w .records) ≡ not (row k .records)) (λ k. refl) w (h .mctype) q)

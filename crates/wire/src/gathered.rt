@@ -4,7 +4,8 @@ ghost use mathlib.Core.Path.{_≡_};
 ghost use Prim.Native.Nat.{_<_};
 ghost use mathlib.Core.Bool.{true};
 ghost use mathlib.Core.List.{List, [], _∷_, _++_};
-ghost use Rattle.model.specs.Object.{Object, kindOf, roleOf, aggregated};
+ghost use lib.Dec.{eqb};
+ghost use Rattle.model.specs.Object.{Object, fieldA, kindOf, roleOf, aggregated};
 ghost use Rattle.model.specs.Table.{row};
 ghost use Rattle.model.specs.Reading.{fixedShape};
 ghost use Rattle.wire.specs.Step.{objectOf};
@@ -58,7 +59,14 @@ fn count(g: Gathered, header: Header, flags: u32, number: u8) -> Gathered
     }
 }
 
-// One aggregated metric more without a bar, and what it tells. A is 0 where the mode is below 16, since R is 0.
+// Whether A is 0: an aggregated metric is added up along the path.
+fn is_added(header: Header) -> bool
+    ensures { λ r. ⌜ r ≡ eqb (fieldA (objectOf header [])) 0 ⌝ }
+{
+    header.mode / 16 % 8 == 0
+}
+
+// One aggregated metric more without a bar, and what it tells.
 fn tell(g: Gathered, header: Header, flags: u32, body: &[u8]) -> Gathered
     requires { ⌜ g .place < 65535 ⌝ }
     requires { ⌜ roleOf (header .flags) (header .mode) ≡ aggregated ⌝ }
@@ -70,14 +78,17 @@ fn tell(g: Gathered, header: Header, flags: u32, body: &[u8]) -> Gathered
         more.hops = body[1] as u16 + 1;
         return more;
     }
-    if 15 < header.mode {
-        return more;
-    }
     if header.mctype == 5 {
+        if !is_added(header) {
+            return more;
+        }
         more.latency = numbers::four(body);
         return more;
     }
     if header.mctype == 7 {
+        if !is_added(header) {
+            return more;
+        }
         more.etx = numbers::two(body);
         return more;
     }

@@ -2,20 +2,25 @@ use mathlib.Core.Path.{_≡_, sym, ap, _∙_}
 use mathlib.Core.Bool.{true}
 use borrow.Author.Needs.{needs}
 use borrow.Author.Tests.{not-true, not-false}
-use Rattle.model.specs.Object.{kindOf, known, roleOf, recorded, aggregated, isRecorded}
+use Rattle.model.specs.Object.{kindOf, known, roleOf, constraint, recorded, aggregated, isRecorded}
+use Rattle.model.specs.Table.{row}
+use Rattle.model.specs.Reading.{cannotBe}
 use Rattle.model.proofs.TabledLaws.{bar-free}
 use Rattle.wire.specs.Step.{objectOf}
-use Rattle.wire.proofs.HeaderLaws.{role-recorded, role-aggregated, constraint-unrecorded}
+use Rattle.wire.proofs.HeaderLaws.{role-constraint, role-recorded, role-aggregated}
 use Rattle.wire.proofs.BarLaws.{bar-unknown, bar-clear}
-use Rattle.wire.proofs.BodyLaws.{misused-constraint, shaped-fixed}
+use Rattle.wire.proofs.BodyLaws.{shaped-fixed}
 use Rattle.wire.proofs.ToldLaws.{unknown-same, constraint-same, recorded-same}
 use Rattle.wire.proofs.GatherLaws.{bar-seen, gathers-counted, gathers-told}
 use Rattle.wire.proofs.gathered.gather.Statement.{statement}
 use Rattle.wire.proofs.gathered.gather.Tie as tie
 
--- past the first test the type is known; past the others the object is recorded, or aggregated
+-- past the first test the type is known; past the others the object is a constraint, recorded, or aggregated
 is-tabled : (c : tie.Else1) → known (kindOf (c .before .before .before .before .args .header .mctype)) ≡ true
 is-tabled c = sym (c .before .is-known .ensures) ∙ not-false _ (c .if1 .left)
+
+is-asked : (c : tie.Then2) → roleOf (c .before .before .before .before .before .before .args .header .flags) (c .before .before .before .before .before .before .args .header .mode) ≡ constraint
+is-asked c = role-constraint _ (sym (c .before .is-constraint .ensures) ∙ c .if2 .taken)
 
 is-series : (c : tie.Then3) → roleOf (c .before .before .before .before .before .before .before .before .args .header .flags) (c .before .before .before .before .before .before .before .before .args .header .mode) ≡ recorded
 is-series c = role-recorded _ (sym (c .before .is-recorded .ensures) ∙ c .if3 .taken)
@@ -45,9 +50,8 @@ is-constraint-requires c κs = search needs
 
 fixed-bar-requires : tie.Need-fixed-bar-requires
 fixed-bar-requires c κs =
-    let args = c .before .before .before .before .before .before .args in
-    let asks = sym (c .before .is-constraint .ensures) ∙ c .if2 .taken in
-    (is-tabled (c .before .before), (constraint-unrecorded (roleOf (args .header .flags) (args .header .mode)) asks, sym (misused-constraint (args .header) asks)))
+    let mctype = c .before .before .before .before .before .before .args .header .mctype in
+    (is-tabled (c .before .before), (ap isRecorded (is-asked c), ap (λ r. cannotBe r (row (kindOf mctype))) (is-asked c)))
 
 count-requires-2 : tie.Need-count-requires-2
 count-requires-2 c κs = search needs
@@ -56,9 +60,8 @@ returns-2 : tie.Need-returns-2
 returns-2 c = λ es w.
     let start = c .before .before .before .before .before .before .before .before in
     let o = objectOf (start .args .header) (start .args .body .now) in
-    let asks = sym (c .before .before .before .is-constraint .ensures) ∙ c .before .before .if2 .taken in
     let bar = bar-seen _ es o w _ (start .pre .1) (c .before .fixed-bar .ensures) in
-    rw (c .count2 .ensures) (gathers-counted _ es o w _ (c .before .before .before .before .before .before .shown-with .ensures) (start .pre .1) _ bar (λ z. constraint-same es o asks))
+    rw (c .count2 .ensures) (gathers-counted _ es o w _ (c .before .before .before .before .before .before .shown-with .ensures) (start .pre .1) _ bar (λ z. constraint-same es o (is-asked (c .before .before))))
 
 is-recorded-requires : tie.Need-is-recorded-requires
 is-recorded-requires c κs = search needs
