@@ -1,4 +1,4 @@
--- The limits of a path: a latency or an ETX tested against the whole way.
+-- The limits of a path: a latency or an ETX tested against the whole way, a throughput against the link.
 use mathlib.Core.Path.{_≡_, sym, ap, _∙_}
 use Prim.Native.Nat.{ℕ, _+_, _/_, _%_, _≤_}
 use mathlib.Core.Bool.{Bool, true, false, not, _&&_, and-assoc}
@@ -74,5 +74,8 @@ unfolding met kindOf
 path-limits c bs os l r k o = (
   λ t. limited latency bs os r (c .flags / 16 % 2) (c .latency) (number (l .body)) _ (asked c os l k o (rw t) ∙ rw (t, by-latency c (pathValue latency os) (number (l .body)))),
   λ t. limited etx bs os r (c .flags / 8 % 2) (c .etx) (number (l .body)) _ (asked c os l k o (rw t) ∙ rw (t, by-etx c (pathValue etx os) (number (l .body)))),
-  λ t. rw (asked c os l k o (rw t), t, ← by-throughput c (number (l .body))) (tested (c .flags / 32 % 2) (number (l .body)) (c .throughput)),
+  λ t.
+      let e : unmet c (summary os) l ≡ not (isSet (c .flags / 32 % 2) && leb (number (l .body)) (c .throughput))
+      = asked c os l k o (rw t) ∙ rw (t, by-throughput c (number (l .body))) in
+      rw e (tested (c .flags / 32 % 2) (number (l .body)) (c .throughput)),
 )
