@@ -105,6 +105,19 @@ fn constraints() -> Vec<u8> {
     data.0
 }
 
+/// A mandatory colour that the link has, a record of ten colours of which the last is the link's, and two metrics.
+fn colours() -> Vec<u8> {
+    let mut data = Data(Vec::new());
+    data.object(8, CONSTRAINT, 0, &[0, 0x80, 0x01]); // encrypted, the first bit
+    let mut record = vec![0];
+    (0..9).for_each(|k| record.extend([0x81 + k, 0x05]));
+    record.extend([0x80, 0x03]);
+    data.object(8, 0, RECORDED, &record);
+    data.object(3, 0, 0, &[0, 3]);
+    data.object(7, 0, 0, &[1, 0xC9]);
+    data.0
+}
+
 /// A call whose candidates have such containers, one behind another, at rising ranks.
 fn call(count: usize, flags: u8, data_of: impl Fn(usize) -> Vec<u8>) -> Input {
     let mut input = Input {
@@ -134,6 +147,7 @@ fn call(count: usize, flags: u8, data_of: impl Fn(usize) -> Vec<u8>) -> Input {
                 etx: 128,
                 latency: 1000,
                 throughput: 50_000,
+                colour: 0x200,
                 ..Neighbour::default()
             },
             start: input.lent.len(),
@@ -164,6 +178,7 @@ pub fn named(name: &str, size: usize) -> Option<Input> {
         "tlvs" => Some(call(16, ALL_KNOWN, |_| minimal_tlvs(size))),
         "unknown" => Some(call(16, ALL_KNOWN, |_| unknown_heavy())),
         "constraints" => Some(call(16, ALL_KNOWN, |_| constraints())),
+        "colours" => Some(call(16, ALL_KNOWN, |_| colours())),
         "optional" => Some(call(16, ALL_KNOWN, |_| one_optional(size))),
         "nobody" => Some(call(0, ALL_KNOWN, typical)),
         "barred" => Some(barred()),

@@ -20,7 +20,7 @@ static const uint8_t received[] = {
 /* A neighbour with a link of a known ETX, and where its container stands among those received. */
 static gardhnosk_candidate candidate(uint16_t rank, uint8_t nodetype, uint16_t etx, size_t start, size_t size)
 {
-    gardhnosk_candidate c = {{0, 0, 0, 0, 0, 0, 0, 0, 0, 0, 0}, 0, 0};
+    gardhnosk_candidate c = {{0, 0, 0, 0, 0, 0, 0, 0, 0, 0, 0, 0}, 0, 0};
     c.neighbour.rank = rank;
     c.neighbour.sp = 3; /* RFC 6552's default: one hop is three units */
     c.neighbour.rf = 1;

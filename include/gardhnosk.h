@@ -36,13 +36,13 @@ enum {
 
     /* verdicts on a candidate: it can be the parent, or it is barred */
     GARDHNOSK_UNBARRED = 10,     /* unbarred */
-    GARDHNOSK_BAR_NUMBERS = 11,  /* Sp is not 1 to 9, Rf is not 1 to 4, Sr is above 5, LQL is above 7, or the type is above 3 */
+    GARDHNOSK_BAR_NUMBERS = 11,  /* Sp not 1 to 9, Rf not 1 to 4, Sr above 5, LQL above 7, type above 3, or colour above 1023 */
     GARDHNOSK_BAR_OUTSIDE = 12,  /* the container is not inside the lent bytes */
     GARDHNOSK_BAR_FRAME = 13,    /* the container is under 2 bytes, does not start with 2, or its data length is wrong */
     GARDHNOSK_BAR_OBJECT = 14,   /* an object's header or body runs past the end of the container */
     GARDHNOSK_BAR_BODY = 15,     /* an object of known type has a body that its type does not allow, or a TLV overruns */
     GARDHNOSK_BAR_REPEAT = 16,   /* an object of known type stood before, as constraint or as metric both times */
-    GARDHNOSK_BAR_RECORDED = 17, /* an NSA or HP metric is recorded, or an LQL metric is not */
+    GARDHNOSK_BAR_RECORDED = 17, /* an NSA or HP metric is recorded, or an LQL or colour metric is not */
     GARDHNOSK_BAR_UNKNOWN = 18,  /* a mandatory constraint of unknown type */
     GARDHNOSK_BAR_UNMET = 19,    /* a mandatory constraint is not met */
     GARDHNOSK_BAR_RANK = 20,     /* the advertised rank is 65535, or the resulting rank is 65535 or more */
@@ -103,6 +103,13 @@ typedef struct {
  * A mandatory limit on ETX or latency in a container is met where the link's value is known and, together with what the same container
  * has added up on the way (a metric of that type with R=0 and A=0; 0 where it has none), at most the limit: in whole numbers, before
  * an ETX stops at 65535. A link whose value is not known meets no limit: GARDHNOSK_BAR_UNMET.
+ *
+ * A mandatory colour in a container (type 8) with I=1 is met where every bit that is set there is set in the link's colour, which may have
+ * more; with I=0 where at least one of them is not. So a colour of 0 is met by every link with I=1, and by none with I=0. The first bit of
+ * RFC 6551's field is 512, the last is 1.
+ *
+ * The colour is newer than the other fields, and stands where a candidate had padding: compile anew what was compiled with a header
+ * without it, and set it, to 0 where links have no colours. Otherwise what was there can be GARDHNOSK_BAR_NUMBERS.
  */
 typedef struct {
     uint16_t rank;       /* the rank that it advertised */
@@ -116,6 +123,7 @@ typedef struct {
     uint16_t etx;        /* the link's ETX times 128, with GARDHNOSK_ETX_KNOWN */
     uint32_t latency;    /* the link's latency in microseconds, with GARDHNOSK_LATENCY_KNOWN */
     uint32_t throughput; /* the link's throughput in bytes per second, with GARDHNOSK_THROUGHPUT_KNOWN */
+    uint16_t colour;     /* the link's colour, 0 to 1023: ten flag bits of the network's own meaning; 0: none is set */
 } gardhnosk_neighbour;
 
 /* A candidate: a neighbour, and where its container stands in the lent bytes. Containers may overlap. */

@@ -14,9 +14,9 @@ typedef struct {
 static const layout_t layout[] = {
     SIZE(own, 24), AT(own, minhop, 0), AT(own, maxincrease, 2), AT(own, lowest, 4), AT(own, nodetype, 6), AT(own, flags, 7),
     AT(own, energy, 8), AT(own, current, 16),
-    SIZE(neighbour, 20), AT(neighbour, rank, 0), AT(neighbour, sp, 2), AT(neighbour, rf, 3), AT(neighbour, sr, 4),
+    SIZE(neighbour, 24), AT(neighbour, rank, 0), AT(neighbour, sp, 2), AT(neighbour, rf, 3), AT(neighbour, sr, 4),
     AT(neighbour, nodetype, 5), AT(neighbour, flags, 6), AT(neighbour, energy, 7), AT(neighbour, lql, 8), AT(neighbour, etx, 10),
-    AT(neighbour, latency, 12), AT(neighbour, throughput, 16),
+    AT(neighbour, latency, 12), AT(neighbour, throughput, 16), AT(neighbour, colour, 20),
     SIZE(candidate, 40), AT(candidate, neighbour, 0), AT(candidate, start, 24), AT(candidate, size, 32),
     SIZE(candidates, 640), AT(candidates, at, 0),
     SIZE(answer, 58), AT(answer, refusal, 0), AT(answer, parent, 1), AT(answer, rank, 2), AT(answer, verdicts, 4),
@@ -52,6 +52,8 @@ typedef struct {
 #define ETX_TO_256 "02 06 07 02 00 02 01 00"
 #define LATENCY_TO_70000 "02 08 05 02 00 04 00 01 11 70"
 #define THROUGHPUT_FROM_70000 "02 08 04 02 00 04 00 01 11 70"
+#define COLOUR_513 "02 07 08 02 00 03 00 80 41"
+#define NO_COLOUR_513 "02 07 08 02 00 03 00 80 40"
 #define RECORDED_ENERGY "02 06 02 00 80 02 00 00"
 #define MOST_ENERGY "02 06 02 00 10 02 01 00"
 #define ANY_FLAG "02 06 01 00 10 02 00 00"
@@ -99,6 +101,10 @@ static const passage_t candidate_passages[] = {
      GARDHNOSK_UNBARRED, GARDHNOSK_BAR_UNMET},
     {"throughput", THROUGHPUT_FROM_70000, NEIGHBOUR(flags), GARDHNOSK_THROUGHPUT_KNOWN, NO_FIELD, NEIGHBOUR(throughput), 69999,
      70000, VERDICT, GARDHNOSK_BAR_UNMET, GARDHNOSK_UNBARRED},
+    {"colour", COLOUR_513, NO_FIELD, NO_FIELD, NEIGHBOUR(colour), 512, 513, VERDICT, GARDHNOSK_BAR_UNMET, GARDHNOSK_UNBARRED},
+    {"colour", COLOUR_513, NO_FIELD, NO_FIELD, NEIGHBOUR(colour), 1023, 1, VERDICT, GARDHNOSK_UNBARRED, GARDHNOSK_BAR_UNMET},
+    {"colour", NO_COLOUR_513, NO_FIELD, NO_FIELD, NEIGHBOUR(colour), 512, 513, VERDICT, GARDHNOSK_UNBARRED, GARDHNOSK_BAR_UNMET},
+    {"colour", EMPTY, NO_FIELD, NO_FIELD, NEIGHBOUR(colour), 1023, 1024, VERDICT, GARDHNOSK_UNBARRED, GARDHNOSK_BAR_NUMBERS},
     {"OVERLOADED", NO_OVERLOAD, NO_FIELD, NO_FIELD, NEIGHBOUR(flags), 0, GARDHNOSK_OVERLOADED, VERDICT, GARDHNOSK_UNBARRED,
      GARDHNOSK_BAR_UNMET},
     {"AGGREGATOR", AGGREGATORS, NO_FIELD, NO_FIELD, NEIGHBOUR(flags), 0, GARDHNOSK_AGGREGATOR, VERDICT, GARDHNOSK_BAR_UNMET,
@@ -295,6 +301,30 @@ static const leaf_t leaves[] = {
     {"02 08 05 00 00 04 FF FF FF FE", 0, GARDHNOSK_NONE, 10, "02 08 05 00 00 04 FF FF FF FF"},
 };
 
+/* what is passed on over a link of colour 513: counted, opened beside a full one, opened, and a constraint's reserved bits cleared */
+static const struct {
+    const char *container, *sent;
+} colours[] = {
+    {"02 07 08 00 80 03 FF 80 45", "02 07 08 00 80 03 00 80 46"},
+    {"02 07 08 00 80 03 00 80 7F", "02 09 08 00 80 05 00 80 7F 80 41"},
+    {"02 07 08 00 80 03 00 80 05", "02 09 08 00 80 05 00 80 05 80 41"},
+    {"02 07 08 03 00 03 FF 80 7F", "02 07 08 03 00 03 00 80 41"},
+};
+
+static void check_colours(void)
+{
+    for (size_t i = 0; i < LENGTH(colours); i++) {
+        call_t call = new_call();
+        put_candidate(&call, 0, colours[i].container);
+        call.candidates.at[0].neighbour.colour = 513;
+        run(&call);
+        size_t at = 0;
+        for (const char *hex = colours[i].sent; *hex != 0; hex = next_byte(hex))
+            same("colours", colours[i].container, call.out[at++], strtoul(hex, NULL, 16));
+        same("colours", "size", call.answer.size, at);
+    }
+}
+
 static void check_leaves(void)
 {
     for (size_t i = 0; i < LENGTH(leaves); i++) {
@@ -385,6 +415,7 @@ int main(void)
     check_current();
     check_refusals();
     check_leaves();
+    check_colours();
     check_list();
     check_meanings();
     check_nulls();

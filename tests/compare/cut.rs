@@ -24,7 +24,7 @@ pub fn is_recorded(object: &[u8]) -> bool {
 }
 
 pub fn is_unknown(object: &[u8]) -> bool {
-    object[0] == 0 || object[0] >= 8
+    object[0] == 0 || object[0] >= 9
 }
 
 /// Whether TLVs may stand behind the first two body bytes: NSA, NE and HP, unless recorded.

@@ -2,6 +2,7 @@
 //! demand 3 on pairs of the library's calls.
 
 mod arguments;
+mod colours;
 mod compare;
 mod cut;
 mod examples;

@@ -1,13 +1,12 @@
 //! How often each number was given, and whether that is often enough.
 
-use super::compare::Listed;
+use super::colours::Colours;
+use super::compare::{Given, Listed};
 use super::generate::Call;
 use super::limits::Limits;
 use super::pairs::Sort;
-use super::reference::data::Answer;
 
-/// Every number is to be given so often, every sort of limit and every sort of pair to be tried so
-/// often.
+/// Every number is to be given so often, every sort of limit, colour and pair to be tried so often.
 const LEAST: u64 = 100;
 const LEAST_PAIRS: u64 = 5000;
 
@@ -39,6 +38,7 @@ pub struct Report {
     listings: [u64; 256],
     without_room: u64,
     limits: Limits,
+    colours: Colours,
     pairs: Pairs,
 }
 
@@ -52,13 +52,15 @@ impl Report {
             listings: [0; 256],
             without_room: 0,
             limits: Limits::default(),
+            colours: Colours::default(),
             pairs: Pairs::default(),
         }
     }
 
     /// Notes an answer of the library. A leaf number counts where there is a parent, a verdict
     /// where the call is not refused.
-    pub fn choice(&mut self, call: &Call, answer: &Answer) {
+    pub fn choice(&mut self, call: &Call, given: &Given) {
+        let answer = &given.answer;
         self.calls += 1;
         self.refusals[usize::from(answer.refusal)] += 1;
         if answer.refusal == 0 {
@@ -70,6 +72,7 @@ impl Report {
             self.leaves[usize::from(answer.leaf)] += 1;
         }
         self.limits.note(call, answer);
+        self.colours.note(call, given);
     }
 
     /// Notes a listing of the library: the number that it was refused with, or 0.
@@ -103,12 +106,18 @@ impl Report {
         print_counts("leaf", &LEAVES, &self.leaves);
         print_counts("listing refused", &LISTINGS, &self.listings);
         println!("listing without room: {}", self.without_room);
-        for (name, count) in self.limits.counts().into_iter().chain(self.sorts()) {
+        for (name, count) in self.sorts().into_iter().chain(self.pair_sorts()) {
             println!("{name}: {count}");
         }
     }
 
-    fn sorts(&self) -> [(&'static str, u64); 7] {
+    /// How often each sort of limit and colour was tried.
+    fn sorts(&self) -> Vec<(&'static str, u64)> {
+        let limits = self.limits.counts().into_iter();
+        limits.chain(self.colours.counts()).collect()
+    }
+
+    fn pair_sorts(&self) -> [(&'static str, u64); 7] {
         let pairs = &self.pairs;
         [
             ("pairs of demand 3", pairs.all),
@@ -142,12 +151,12 @@ impl Report {
         if self.without_room < LEAST {
             lines.push(format!("fewer than {LEAST} listings had too little room"));
         }
-        for (name, count) in self.limits.counts() {
+        for (name, count) in self.sorts() {
             if count < LEAST {
                 lines.push(format!("{name}: fewer than {LEAST}"));
             }
         }
-        for (name, count) in self.sorts() {
+        for (name, count) in self.pair_sorts() {
             if count < LEAST_PAIRS {
                 lines.push(format!("{name}: fewer than {LEAST_PAIRS}"));
             }

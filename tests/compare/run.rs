@@ -74,7 +74,7 @@ fn one(place: &Place, report: &mut Report) -> bool {
             return false;
         }
     };
-    report.choice(&call, &given.answer);
+    report.choice(&call, &given);
     if let Err(difference) = listings(&mut stream(LISTING), &call, report) {
         place.listing(&difference);
         return false;

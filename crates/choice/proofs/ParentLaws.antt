@@ -24,10 +24,10 @@ use Rattle.model.proofs.VerdictLaws.{Admitted, admitted, in-range, container-sh
 use Rattle.hop.specs.Sent.{sends}
 
 -- a well-formed container in range is sent on as the model has it
-sends-read : (own : Own) (c : Neighbour) (bs : List ℕ) (room : ℕ) (os : List Object) → reading bs ≡ wellFormed os → own .nodetype ≤ 3 → c .lql ≤ 7 → length bs ≤ 257
+sends-read : (own : Own) (c : Neighbour) (bs : List ℕ) (room : ℕ) (os : List Object) → reading bs ≡ wellFormed os → own .nodetype ≤ 3 → c .lql ≤ 7 → c .colour ≤ 1023 → length bs ≤ 257
     → 257 ≤ room → sends own c bs room ≡ outgoingRead own c (reading bs)
 unfolding sends
-sends-read own c bs room os e t l s m = rw (le-ltb 3 (own .nodetype) t, le-ltb 7 (c .lql) l, le-ltb 257 (length bs) s, le-ltb room 257 m, e, reading-objects bs os e .objects)
+sends-read own c bs room os e t l k s m = rw (le-ltb 3 (own .nodetype) t, le-ltb 7 (c .lql) l, le-ltb 1023 (c .colour) k, le-ltb 257 (length bs) s, le-ltb room 257 m, e, reading-objects bs os e .objects)
 
 module _ (own : Own) (cs : List Candidate) (lent : List ℕ) (n : ℕ) (d : Candidate) (p : ℕ) (r : Rank) (e : choiceOf own (take n cs) lent ≡ Parent p r) where
   -- the parent at its position in the array
@@ -56,5 +56,5 @@ module _ (own : Own) (cs : List Candidate) (lent : List ℕ) (n : ℕ) (d : Cand
   parent-sends room t m b =
       let x = parent-at in
       let a = x .admits in
-      let (i, j, q) = in-range (getD cs p d .neighbour) (a .inRange) in
-      rw (x .stands) (sends-read own (getD cs p d .neighbour) (containerOf lent (getD cs p d)) room (a .objects) (a .read) t q (container-short lent (getD cs p d) (a .objects) (a .read) b) m)
+      let (i, j, q, k) = in-range (getD cs p d .neighbour) (a .inRange) in
+      rw (x .stands) (sends-read own (getD cs p d .neighbour) (containerOf lent (getD cs p d)) room (a .objects) (a .read) t q k (container-short lent (getD cs p d) (a .objects) (a .read) b) m)

@@ -1,13 +1,13 @@
 -- The pass over the candidates: what is gathered of those that are judged.
-use mathlib.Core.Path.{_≡_, refl, sym, _∙_}
+use mathlib.Core.Path.{_≡_, refl, sym, ap, _∙_}
 use Prim.Native.Nat.{ℕ, _+_, _*_, _^_, _≤_, _<_}
-use native.Mathlib.Nat.{lt-of-lt-of-le, add-zero, zero-mul, one-mul}
+use native.Mathlib.Nat.{add-zero, add-comm, zero-mul, one-mul}
 use native.Mathlib.Omega.{arith}
 use native.Mathlib.Numerals.{add-one}
 use mathlib.Core.List.{List, [], _∷_, _++_, map, map-append}
-use lib.ListN.{length, getD, set, take, replicate, length-map, length-take}
+use lib.ListN.{length, getD, set, take, replicate, length-map}
 use lib.Seq.{take-suc, length-take-le}
-use lib.Pow.{pow-mono}
+use lib.Bits.{bitOr, or-shifted-r}
 use Rattle.model.specs.declared.Own.{Own}
 use Rattle.model.specs.declared.Candidate.{Candidate}
 use Rattle.model.specs.declared.Rank.{Rank}
@@ -19,7 +19,7 @@ use Rattle.model.specs.Reading.{noPlace}
 use Rattle.model.specs.Verdict.{verdict, numberOf, placeOf}
 use Rattle.model.specs.Choice.{currentOf, afterVerdict, chooseFrom, unbarredBit, bitsOf, sixteen, verdicts, choiceOf}
 use Rattle.model.proofs.ChoiceLaws.{bits-below}
-use Rattle.model.proofs.ChoosingLaws.{choose-snoc, bits-snoc, sixteen-snoc}
+use Rattle.model.proofs.ChoosingLaws.{choose-snoc, bits-snoc, sixteen-snoc, sixteen-same}
 
 -- what is gathered of the judged candidates: the verdicts' numbers and places, the bits, and the best
 pub record Gathered (own : Own) (lent : List ℕ) (judged : List Candidate) (numbers places : List ℕ) (bits : ℕ) (best : Choice) : Type 0 where
@@ -60,15 +60,22 @@ gathered-more own lent cs i d s h g ev en ep ew eb =
     let l : length (take i cs) ≡ i = length-take-le i cs (omega arith) in
     rw (t, en, ep, ew, eb, ev) (rw l at (gathered-snoc own lent (take i cs) (getD cs i d) (omega arith) g))
 
--- sixteen bits hold the bits of all
-gathered-bits : {own : Own} {lent : List ℕ} {judged : List Candidate} {numbers places : List ℕ} {bits : ℕ} {best : Choice} → Gathered own lent judged numbers places bits best
-    → length judged ≤ 16 → bits < 65536
-gathered-bits {own} {lent} {judged} g h =
+-- a bit above those so far is added
+gathered-or : {own : Own} {lent : List ℕ} {judged : List Candidate} {numbers places : List ℕ} {bits : ℕ} {best : Choice} → Gathered own lent judged numbers places bits best
+    → bitOr bits (2 ^ length judged) ≡ bits + 2 ^ length judged
+gathered-or {own} {lent} {judged} {bits = bits} g =
     let vs = verdicts own judged lent in
-    let l : length vs ≤ 16 = rw (length-map judged (verdict own lent)) h in
-    let b : bitsOf vs < 2 ^ length vs = bits-below vs in
-    let m : 2 ^ length vs ≤ 2 ^ 16 = pow-mono l in
-    rw (g .marked) (lt-of-lt-of-le b m)
+    let l : length vs ≡ length judged = length-map judged (verdict own lent) in
+    let b : bits < 2 ^ length judged = rw (g .marked, ← l) (bits-below vs) in
+    ap (bitOr bits) (sym (one-mul (2 ^ length judged))) ∙ or-shifted-r 1 (length judged) bits b ∙ rw (one-mul (2 ^ length judged)) (add-comm (2 ^ length judged) bits)
+
+-- the place behind those so far is none already
+gathered-place : {own : Own} {lent : List ℕ} {judged : List Candidate} {numbers places : List ℕ} {bits : ℕ} {best : Choice} → Gathered own lent judged numbers places bits best
+    → length judged < 16 → set places (length judged) noPlace ≡ places
+gathered-place {own} {lent} {judged} g h =
+    let ns = map placeOf (verdicts own judged lent) in
+    let l : length ns ≡ length judged = length-map (verdicts own judged lent) placeOf ∙ length-map judged (verdict own lent) in
+    rw (g .placed, ← l) (sixteen-same noPlace ns (omega arith))
 
 -- the pass before a position: the positions stand in the array, and those before it are gathered
 pub record Pass (own : Own) (lent : List ℕ) (cs : List Candidate) (count i : ℕ) (numbers places : List ℕ) (bits : ℕ) (best : Choice) : Type 0 where
@@ -91,13 +98,14 @@ module _ {own : Own} {lent : List ℕ} {cs : List Candidate} {count i : ℕ} (d 
   pub pass-barred : {n p : ℕ} → v ≡ Barred n p → Pass own lent cs count (i + 1) (set numbers i n) (set places i p) bits best
   pass-barred e = rw (e, zero-mul (2 ^ i), add-zero bits) at pass-more
 
-  -- one that is not
+  -- one that is not: its place is none already
   pub pass-unbarred : {r : Rank} {w : ℕ} {b : Choice} → v ≡ Unbarred r → w ≡ 2 ^ i → b ≡ afterVerdict (currentOf own) best i (Unbarred r)
-      → Pass own lent cs count (i + 1) (set numbers i 10) (set places i noPlace) (bits + w) b
-  pass-unbarred e ew eb = rw (ew, eb) (rw (e, one-mul (2 ^ i)) at pass-more)
-
-  pub pass-fits : {r : Rank} {w : ℕ} → v ≡ Unbarred r → w ≡ 2 ^ i → bits + w < 65536
-  pass-fits e ew = gathered-bits (pass-unbarred e ew refl .gathered) (rw (length-take (i + 1) cs) (omega arith))
+      → Pass own lent cs count (i + 1) (set numbers i 10) places (bitOr bits w) b
+  pass-unbarred e ew eb =
+      let l : length (take i cs) ≡ i = length-take-le i cs (omega (arith, pass .array, pass .few)) in
+      let o : bitOr bits (2 ^ i) ≡ bits + 2 ^ i = rw l at (gathered-or (pass .gathered)) in
+      let s : set places i noPlace ≡ places = rw l at (gathered-place (pass .gathered) (omega (arith, l, pass .few))) in
+      rw (ew, eb, o) (rw (e, one-mul (2 ^ i), s) at pass-more)
 
 -- the pass is over
 pub pass-end : {own : Own} {lent : List ℕ} {cs : List Candidate} {count i : ℕ} {numbers places : List ℕ} {bits : ℕ} {best : Choice} → Pass own lent cs count i numbers places bits best

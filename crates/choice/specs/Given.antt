@@ -19,6 +19,7 @@ blank = record {
     etx = 0;
     latency = 0;
     throughput = 0;
+    colour = 0;
   };
   start = 0;
   size = 0;

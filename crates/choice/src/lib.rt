@@ -43,8 +43,7 @@ pub fn call(
             }
             Verdict::Unbarred(rank) => {
                 numbers[i] = 10;
-                places[i] = 65535;
-                bits += answers::bit_at(i);
+                bits = bits | answers::bit_at(i);
                 best = preference::better(own, best, i as u8, rank);
                 i += 1;
             }

@@ -15,7 +15,7 @@ use model::Rank;
 
 // A flag's bit where its word was given.
 fn flag(given: u64, k: usize, bit: u8) -> u8
-    requires { ⌜ k < 21 ⌝ }
+    requires { ⌜ k < 22 ⌝ }
 {
     if settings::has(given, k) {
         return bit;
@@ -55,7 +55,7 @@ fn own_of(rows: &Rows) -> Own {
 
 // The neighbour whose row begins at an index.
 fn neighbour_of(rows: &Rows, at: usize) -> Neighbour
-    requires { ⌜ at ≤ 288 ⌝ }
+    requires { ⌜ at ≤ 304 ⌝ }
 {
     Neighbour {
         rank: Rank((rows[at + names::RANK] % 65536) as u16),
@@ -69,11 +69,12 @@ fn neighbour_of(rows: &Rows, at: usize) -> Neighbour
         etx: (rows[at + names::ETX] % 65536) as u16,
         latency: (rows[at + names::LATENCY] % 4294967296) as u32,
         throughput: (rows[at + names::THROUGHPUT] % 4294967296) as u32,
+        colour: (rows[at + names::COLOUR] % 65536) as u16,
     }
 }
 
 fn candidate_of(rows: &Rows, at: usize) -> Candidate
-    requires { ⌜ at ≤ 288 ⌝ }
+    requires { ⌜ at ≤ 304 ⌝ }
 {
     Candidate {
         neighbour: neighbour_of(rows, at),
@@ -89,7 +90,7 @@ fn candidates_of(rows: &Rows, count: usize) -> [Candidate; 16]
     let mut list = [candidate_of(rows, 0); 16];
     let mut i = 0;
     while i < count {
-        list[i] = candidate_of(rows, i * 18 + 18);
+        list[i] = candidate_of(rows, i * 19 + 19);
         i += 1;
     }
     list

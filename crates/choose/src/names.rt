@@ -1,7 +1,7 @@
 // The words of the input.
 ghost use Prim.Native.Nat.{_<_, _≤_};
 
-// A word is told by its place in the table of names. The first 17 have a number behind them; container and lent have bytes.
+// A word is told by its place in the table of names. The first 18 have a number behind them; container and lent have bytes.
 pub const MINHOP: usize = 0;
 
 pub const MAXINCREASE: usize = 1;
@@ -32,27 +32,29 @@ pub const LATENCY: usize = 13;
 
 pub const THROUGHPUT: usize = 14;
 
-pub const START: usize = 15;
+pub const COLOUR: usize = 15;
 
-pub const SIZE: usize = 16;
+pub const START: usize = 16;
 
-pub const CONTAINER: usize = 17;
+pub const SIZE: usize = 17;
 
-pub const LENT: usize = 18;
+pub const CONTAINER: usize = 18;
 
-pub const AGGREGATOR: usize = 19;
+pub const LENT: usize = 19;
 
-pub const OVERLOADED: usize = 20;
+pub const AGGREGATOR: usize = 20;
 
-pub const CANDIDATE: usize = 21;
+pub const OVERLOADED: usize = 21;
 
-pub const CALL: usize = 22;
+pub const CANDIDATE: usize = 22;
+
+pub const CALL: usize = 23;
 
 // Any other word.
-pub const NONE: usize = 23;
+pub const NONE: usize = 24;
 
 // Each name in 12 bytes, so that a space stands behind the longest.
-const NAMES: [u8; 276] = *b"\
+const NAMES: [u8; 288] = *b"\
     minhop      \
     maxincrease \
     rank        \
@@ -68,6 +70,7 @@ const NAMES: [u8; 276] = *b"\
     etx         \
     latency     \
     throughput  \
+    colour      \
     start       \
     size        \
     container   \
@@ -80,7 +83,7 @@ const NAMES: [u8; 276] = *b"\
 
 // A byte of a name.
 pub(crate) fn letter(k: usize, i: usize) -> u8
-    requires { ⌜ k < 23 ⌝ }
+    requires { ⌜ k < 24 ⌝ }
     requires { ⌜ i < 12 ⌝ }
 {
     NAMES[k * 12 + i]
@@ -96,7 +99,7 @@ fn padded(word: &[u8], i: usize) -> u8 {
 
 // Whether a word is a name. No word has a space in it, so one of 12 bytes or more is none.
 pub(crate) fn is(word: &[u8], k: usize) -> bool
-    requires { ⌜ k < 23 ⌝ }
+    requires { ⌜ k < 24 ⌝ }
 {
     let mut i = 0;
     while i < 12 {
@@ -110,10 +113,10 @@ pub(crate) fn is(word: &[u8], k: usize) -> bool
 
 // Which name a word is.
 pub fn look_up(word: &[u8]) -> usize
-    ensures { λ r. ⌜ r ≤ 23 ⌝ }
+    ensures { λ r. ⌜ r ≤ 24 ⌝ }
 {
     let mut k = 0;
-    while k < 23 {
+    while k < 24 {
         if is(word, k) {
             return k;
         }

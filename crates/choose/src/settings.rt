@@ -12,9 +12,9 @@ use crate::state::State;
 use words::Decimal;
 use words::HexByte;
 
-// The limits of minhop, maxincrease, rank, sp, rf, sr, type, lql, lowest, energy, current, room, etx, latency, throughput, start
-// and size.
-const LIMITS: [u64; 17] = [
+// The limits of minhop, maxincrease, rank, sp, rf, sr, type, lql, lowest, energy, current, room, etx, latency, throughput, colour,
+// start and size.
+const LIMITS: [u64; 18] = [
     65535,
     65535,
     65535,
@@ -30,6 +30,7 @@ const LIMITS: [u64; 17] = [
     65535,
     4294967295,
     4294967295,
+    65535,
     state::MOST,
     state::MOST,
 ];
@@ -56,6 +57,7 @@ const OF_CANDIDATE: u64 = (1 << names::RANK)
     | (1 << names::ETX)
     | (1 << names::LATENCY)
     | (1 << names::THROUGHPUT)
+    | (1 << names::COLOUR)
     | (1 << names::START)
     | (1 << names::SIZE)
     | (1 << names::CONTAINER)
@@ -63,7 +65,7 @@ const OF_CANDIDATE: u64 = (1 << names::RANK)
     | (1 << names::OVERLOADED);
 
 // The column of a row for the words that were given.
-pub const GIVEN: usize = 17;
+pub const GIVEN: usize = 18;
 
 // A place on a line, and what is known there.
 pub struct Next {
@@ -92,7 +94,7 @@ pub(crate) fn stop(end: usize, s: State, out: &mut Buffer, what: Fault, k: usize
 
 // Whether a word is among some, by their bits.
 pub(crate) fn has(words: u64, k: usize) -> bool
-    requires { ⌜ k < 21 ⌝ }
+    requires { ⌜ k < 22 ⌝ }
 {
     (words >> k) % 2 == 1
 }
@@ -100,7 +102,7 @@ pub(crate) fn has(words: u64, k: usize) -> bool
 // With a word that is given now.
 fn with(s: State, k: usize) -> State
     requires { ⌜ Sound s ⌝ }
-    requires { ⌜ k < 21 ⌝ }
+    requires { ⌜ k < 22 ⌝ }
     ensures { λ r. ⌜ Sound r ⌝ }
 {
     let mut t = s;
@@ -118,7 +120,7 @@ fn both_ways(given: u64, k: usize) -> bool {
 
 // Fails where a word does not belong to its place, or was given already.
 fn admit(s: State, out: &mut Buffer, k: usize) -> State
-    requires { ⌜ k < 21 ⌝ }
+    requires { ⌜ k < 22 ⌝ }
     requires { ⌜ Sound s ⌝ }
     ensures { λ r. ⌜ Sound r ⌝ }
 {
@@ -140,7 +142,7 @@ fn admit(s: State, out: &mut Buffer, k: usize) -> State
 // The number behind a word, which ends at an index.
 fn number(line: &[u8], end: usize, k: usize, s: State, rows: &mut Rows, out: &mut Buffer) -> Next
     requires { ⌜ end ≤ length (now line) ⌝ }
-    requires { ⌜ k < 17 ⌝ }
+    requires { ⌜ k < 18 ⌝ }
     requires { ⌜ Sound s ⌝ }
     ensures { λ r. ⌜ (end ≤ r .at) × ((r .at ≤ length (now (line .entry))) × Sound (r .state)) ⌝ }
 {
@@ -151,7 +153,7 @@ fn number(line: &[u8], end: usize, k: usize, s: State, rows: &mut Rows, out: &mu
             if LIMITS[k] < n {
                 return stop(end, s, out, Fault::TooLarge(LIMITS[k]), k);
             }
-            rows[s.count * 18 + k] = n;
+            rows[s.count * 19 + k] = n;
             let given = with(s, k);
             Next {
                 at: to,
@@ -206,7 +208,7 @@ fn bytes(
     out: &mut Buffer,
 ) -> Next
     requires { ⌜ end ≤ length (now line) ⌝ }
-    requires { ⌜ k < 21 ⌝ }
+    requires { ⌜ k < 22 ⌝ }
     requires { ⌜ Sound s ⌝ }
     ensures { λ r. ⌜ (end ≤ r .at) × ((r .at ≤ length (now (line .entry))) × Sound (r .state)) ⌝ }
 {
@@ -214,7 +216,7 @@ fn bytes(
         HexRun::Lent(n) => {
             let mut t = s;
             if k == names::CONTAINER {
-                let row = s.count * 18;
+                let row = s.count * 19;
                 rows[row + names::START] = s.used as u64;
                 rows[row + names::SIZE] = (n - s.used) as u64;
                 t = with(s, k);
@@ -241,7 +243,7 @@ pub(crate) fn take(
     out: &mut Buffer,
 ) -> Next
     requires { ⌜ end ≤ length (now line) ⌝ }
-    requires { ⌜ k < 21 ⌝ }
+    requires { ⌜ k < 22 ⌝ }
     requires { ⌜ Sound s ⌝ }
     ensures { λ r. ⌜ (end ≤ r .at) × ((r .at ≤ length (now (line .entry))) × Sound (r .state)) ⌝ }
 {

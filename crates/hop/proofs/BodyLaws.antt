@@ -15,12 +15,13 @@ use Rattle.model.specs.declared.Neighbour.{Neighbour}
 use Rattle.model.specs.Number.{number, bigEndian}
 use Rattle.model.specs.Object.{kindOf}
 use Rattle.model.specs.Constraint.{energyIn}
-use Rattle.model.specs.Update.{localValue, valueOr0, combine, onTwo, onField, aggregatedBody, subObject, clearEach, ownEnergy, countLevel, countedBody, recordedBody}
+use Rattle.model.specs.Update.{localValue, valueOr0, combine, onTwo, onField, aggregatedBody, subObject, clearEach, ownEnergy, behindReserved, countedBody, clearColour, colouredBody, recordedBody}
 use Rattle.model.proofs.BoolLaws.{both}
 use Rattle.model.proofs.TypeLaws.{by-type}
 use Rattle.wire.specs.Put.{Put}
 use Rattle.wire.proofs.PutLaws.{put-cons, put-length}
 use Rattle.metric.specs.Next.{linkOf, clearFirst, combineSecond, countsIn}
+use Rattle.metric.specs.Colours.{clearThird}
 use Rattle.metric.proofs.KindLaws.{aggregated-by, recorded-by}
 
 -- ---- the first two bytes changed
@@ -41,7 +42,7 @@ pub node-value : (own : Own) (c : Neighbour) (t : ℕ) → own .energy ≤ 255 �
 unfolding kindOf localValue
 node-value own c t h =
     by-type (λ t. eqb t 1 || eqb t 2 || eqb t 3 ≡ true → valueOr0 (localValue own c (kindOf t)) ≤ 255)
-    (λ e. omega arith) (λ e. omega arith) (λ e. energy (eqb (own .flags / 4 % 2) 1)) (λ e. omega arith) (λ e. absurd (false≢true e)) (λ e. absurd (false≢true e)) (λ e. absurd (false≢true e)) (λ e. absurd (false≢true e)) (λ t p e. rw (p .kind) (omega arith)) t
+    (λ e. omega arith) (λ e. omega arith) (λ e. energy (eqb (own .flags / 4 % 2) 1)) (λ e. omega arith) (λ e. absurd (false≢true e)) (λ e. absurd (false≢true e)) (λ e. absurd (false≢true e)) (λ e. absurd (false≢true e)) (λ e. absurd (false≢true e)) (λ t p e. rw (p .kind) (omega arith)) t
   where
     energy : (b : Bool) → valueOr0 (cond b (Known (own .energy)) Unknown) ≤ 255
     energy true = h
@@ -63,26 +64,44 @@ sub-known w q e p = rw e p
 pub sub-unknown : (l : List ℕ) (at w : ℕ) (q : Quantity) → q ≡ Unknown → Put l at [] at l → Put l at (subObject w q) at l
 sub-unknown l at w q e p = rw e p
 
--- ---- levels
+-- ---- sub-objects behind a reserved byte
 
-pub no-levels : (v : ℕ) (b : List ℕ) → length b ≡ 0 → countedBody v b ≡ []
-no-levels v [] e = refl
-no-levels v (x ∷ b) e = absurd (omega arith)
+module _ (f : List ℕ → List ℕ) where
+  pub no-subs : (b : List ℕ) → length b ≡ 0 → behindReserved f b ≡ []
+  no-subs [] e = refl
+  no-subs (x ∷ b) e = absurd (omega arith)
 
--- the reserved byte and the levels behind it
-pub levels-are : (v : ℕ) (b : List ℕ) → (length b ≡ 0 → ⊥) → countedBody v b ≡ 0 ∷ countLevel v (take (length b - 1) (drop 1 b))
-levels-are v [] e = absurd (e refl)
-levels-are v (x ∷ b) e = rw (take-all (suc (length b) - 1) b (omega arith))
+  pub subs-are : (b : List ℕ) → (length b ≡ 0 → ⊥) → behindReserved f b ≡ 0 ∷ f (take (length b - 1) (drop 1 b))
+  subs-are [] e = absurd (e refl)
+  subs-are (x ∷ b) e = rw (take-all (suc (length b) - 1) b (omega arith))
 
-pub put-levelled : {l m : List ℕ} {n : ℕ} (at v : ℕ) (b : List ℕ) → (length b ≡ 0 → ⊥) → Put (set l at 0) (at + 1) (countLevel v (take (length b - 1) (drop 1 b))) n m → Put l at (countedBody v b) n m
-put-levelled at v b h p = rw (levels-are v b h) (put-cons at 0 refl p)
+  pub put-behind : {l m : List ℕ} {n : ℕ} (at : ℕ) (b : List ℕ) → (length b ≡ 0 → ⊥) → Put (set l at 0) (at + 1) (f (take (length b - 1) (drop 1 b))) n m → Put l at (behindReserved f b) n m
+  put-behind at b h p = rw (subs-are b h) (put-cons at 0 refl p)
 
-pub levels-room : (at room v : ℕ) (b : List ℕ) → (length b ≡ 0 → ⊥) → at + length (countedBody v b) ≤ room → at + 1 + length (countLevel v (take (length b - 1) (drop 1 b))) ≤ room
-levels-room at room v b h r = let e = ap length (levels-are v b h) in omega arith
+  pub subs-room : (at room : ℕ) (b : List ℕ) → (length b ≡ 0 → ⊥) → at + length (behindReserved f b) ≤ room → at + 1 + length (f (take (length b - 1) (drop 1 b))) ≤ room
+  subs-room at room b h r = let e = ap length (subs-are b h) in omega arith
 
 -- a counter that gains one stays in its byte
 pub counted-byte : {r : Bool} (v x : ℕ) → r ≡ countsIn v x → r ≡ true → x ≤ 255 → x + 1 ≤ 255
 counted-byte v x e t h = let l = ltb-true (x % 32) 31 (both (eqb (x / 32) v) (ltb (x % 32) 31) (sym e ∙ t) .1) in omega arith
+
+-- ---- colours
+
+-- a constraint's sub-object cleared
+pub cleared-short : {l m : List ℕ} {at n : ℕ} (b : List ℕ) → length b < 3 → Put l at b n m → Put l at (clearColour b) n m
+cleared-short [] h p = p
+cleared-short (x ∷ []) h p = p
+cleared-short (x ∷ y ∷ []) h p = p
+cleared-short (x ∷ y ∷ z ∷ t) h p = absurd (omega arith)
+
+pub cleared-three : {l m : List ℕ} {n z : ℕ} (at : ℕ) (b : List ℕ) → 3 ≤ length b → z ≡ clearThird (getD b 2 0)
+    → Put (set (set (set l at 0) (at + 1) (getD b 1 0)) (at + 2) z) (at + 3) (take (length b - 3) (drop 3 b)) n m → Put l at (clearColour b) n m
+cleared-three at [] h e p = absurd (omega arith)
+cleared-three at (x ∷ []) h e p = absurd (omega arith)
+cleared-three at (x ∷ y ∷ []) h e p = absurd (omega arith)
+cleared-three {l} {m} {n} {z} at (x ∷ y ∷ w ∷ t) h e p =
+    let whole : take (suc (suc (suc (length t))) - 3) t ≡ t = take-all (suc (suc (suc (length t))) - 3) t (omega arith) in
+    put-cons at 0 refl (put-cons (at + 1) y (omega arith) (put-cons (at + 2) (clearThird w) (omega arith) (rw (e, whole) at p)))
 
 -- ---- the body of an aggregated metric, by type
 
@@ -109,14 +128,17 @@ module _ (own : Own) (c : Neighbour) (t : ℕ) (b : List ℕ) where
   pub recorded-levels : (t ≡ 2 → ⊥) → t ≡ 6 → recordedBody own c (kindOf t) b ≡ countedBody (c .lql) b
   recorded-levels p e = rw (← recorded-by own c t b, ne-eqb t 2 p, eq-eqb t 6 e)
 
-  pub recorded-before : {q : Quantity} → (t ≡ 2 → ⊥) → (t ≡ 6 → ⊥) → q ≡ linkOf c (kindOf t) → t ≡ 4 → recordedBody own c (kindOf t) b ≡ subObject 4 q ++ b
-  recorded-before p r d e = rw (← recorded-by own c t b, ne-eqb t 2 p, ne-eqb t 6 r, eq-eqb t 4 e, d)
+  pub recorded-colours : (t ≡ 2 → ⊥) → (t ≡ 6 → ⊥) → t ≡ 8 → recordedBody own c (kindOf t) b ≡ colouredBody (c .colour) b
+  recorded-colours p r e = rw (← recorded-by own c t b, ne-eqb t 2 p, ne-eqb t 6 r, eq-eqb t 8 e)
 
-  pub recorded-2 : {q : Quantity} → (t ≡ 2 → ⊥) → (t ≡ 6 → ⊥) → q ≡ linkOf c (kindOf t) → (t ≡ 4 → ⊥) → t ≡ 7 → recordedBody own c (kindOf t) b ≡ b ++ subObject 2 q
-  recorded-2 p r d f e = rw (← recorded-by own c t b, ne-eqb t 2 p, ne-eqb t 6 r, ne-eqb t 4 f, eq-eqb t 7 e, d)
+  pub recorded-before : {q : Quantity} → (t ≡ 2 → ⊥) → (t ≡ 6 → ⊥) → (t ≡ 8 → ⊥) → q ≡ linkOf c (kindOf t) → t ≡ 4 → recordedBody own c (kindOf t) b ≡ subObject 4 q ++ b
+  recorded-before p r o d e = rw (← recorded-by own c t b, ne-eqb t 2 p, ne-eqb t 6 r, ne-eqb t 8 o, eq-eqb t 4 e, d)
 
-  pub recorded-4 : {q : Quantity} → (t ≡ 2 → ⊥) → (t ≡ 6 → ⊥) → q ≡ linkOf c (kindOf t) → (t ≡ 4 → ⊥) → (t ≡ 7 → ⊥) → recordedBody own c (kindOf t) b ≡ b ++ subObject 4 q
-  recorded-4 p r d f e = rw (← recorded-by own c t b, ne-eqb t 2 p, ne-eqb t 6 r, ne-eqb t 4 f, ne-eqb t 7 e, d)
+  pub recorded-2 : {q : Quantity} → (t ≡ 2 → ⊥) → (t ≡ 6 → ⊥) → (t ≡ 8 → ⊥) → q ≡ linkOf c (kindOf t) → (t ≡ 4 → ⊥) → t ≡ 7 → recordedBody own c (kindOf t) b ≡ b ++ subObject 2 q
+  recorded-2 p r o d f e = rw (← recorded-by own c t b, ne-eqb t 2 p, ne-eqb t 6 r, ne-eqb t 8 o, ne-eqb t 4 f, eq-eqb t 7 e, d)
+
+  pub recorded-4 : {q : Quantity} → (t ≡ 2 → ⊥) → (t ≡ 6 → ⊥) → (t ≡ 8 → ⊥) → q ≡ linkOf c (kindOf t) → (t ≡ 4 → ⊥) → (t ≡ 7 → ⊥) → recordedBody own c (kindOf t) b ≡ b ++ subObject 4 q
+  recorded-4 p r o d f e = rw (← recorded-by own c t b, ne-eqb t 2 p, ne-eqb t 6 r, ne-eqb t 8 o, ne-eqb t 4 f, ne-eqb t 7 e, d)
 
 -- a body of two parts has room where the whole has
 pub room-first : {room : ℕ} (at : ℕ) {w : List ℕ} (xs ys : List ℕ) → w ≡ xs ++ ys → at + length w ≤ room → at + length xs ≤ room
@@ -126,10 +148,10 @@ pub room-second : {l m : List ℕ} (at : ℕ) {w : List ℕ} {n : ℕ} (xs ys : 
 room-second at xs ys e h p = let k = ap length e ∙ length-append xs ys in omega (arith, p .end, put-length p)
 
 -- a body to which something is added has room where the whole has
-pub recorded-room : (own : Own) (c : Neighbour) (t : ℕ) (b : List ℕ) {q : Quantity} (at : ℕ) {room : ℕ} → (t ≡ 2 → ⊥) → (t ≡ 6 → ⊥) → q ≡ linkOf c (kindOf t) → (t ≡ 4 → ⊥)
+pub recorded-room : (own : Own) (c : Neighbour) (t : ℕ) (b : List ℕ) {q : Quantity} (at : ℕ) {room : ℕ} → (t ≡ 2 → ⊥) → (t ≡ 6 → ⊥) → (t ≡ 8 → ⊥) → q ≡ linkOf c (kindOf t) → (t ≡ 4 → ⊥)
     → at + length (recordedBody own c (kindOf t) b) ≤ room → at + length b ≤ room
-recorded-room own c t b {q} at {room} p r d f h = go (eqb t 7) refl
+recorded-room own c t b {q} at {room} p r o d f h = go (eqb t 7) refl
   where
     go : (s : Bool) → eqb t 7 ≡ s → at + length b ≤ room
-    go true e = room-first at b (subObject 2 q) (recorded-2 own c t b p r d f (eqb-true t 7 e)) h
-    go false e = room-first at b (subObject 4 q) (recorded-4 own c t b p r d f (eqb-false t 7 e)) h
+    go true e = room-first at b (subObject 2 q) (recorded-2 own c t b p r o d f (eqb-true t 7 e)) h
+    go false e = room-first at b (subObject 4 q) (recorded-4 own c t b p r o d f (eqb-false t 7 e)) h

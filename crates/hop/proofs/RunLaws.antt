@@ -1,19 +1,21 @@
 -- Runs of bytes that loops put into an output: the bytes still to be put give the whole.
 use mathlib.Core.Path.{_≡_, refl, sym, ap, _∙_}
-use Prim.Native.Nat.{ℕ, suc, _+_, _-_, _*_, _/_, _%_, _≤_, _<_}
+use Prim.Native.Nat.{ℕ, zero, suc, _+_, _-_, _*_, _/_, _%_, _≤_, _<_}
 use native.Mathlib.Nat.{add-zero, zero-add, add-suc, div-one}
 use native.Mathlib.Numerals.{add-one, add-two, add-three}
 use native.Mathlib.Omega.{arith}
 use mathlib.Core.List.{List, [], _∷_}
 use lib.ListN.{length, getD, set, take, drop, length-set, length-drop, drop-of-length-le}
 use mathlib.Core.Bool.{Bool, true, false, cond}
-use lib.Seq.{sets, take-all, drop-cons}
+use lib.Seq.{sets, take-all}
 use Rattle.model.specs.Number.{bigEndian}
-use Rattle.model.specs.Update.{clearEach, countLevel}
+use Rattle.model.specs.Update.{clearEach, countLevel, countColour}
 use Rattle.wire.specs.Put.{Put}
-use Rattle.wire.proofs.PutLaws.{put-cons}
+use Rattle.wire.proofs.PutLaws.{put-cons, put-append, put-inside}
 use Rattle.metric.specs.Next.{countsIn}
+use Rattle.metric.specs.Colours.{gainsIn, placeOf}
 use Rattle.metric.proofs.LevelLaws.{step}
+use Rattle.metric.proofs.ColourLaws.{step-two, step-lone, counts-at, counts-behind, counts-lone, length-opened, room-at}
 
 -- up to index i of what is put; `rest` gives the bytes from there on
 pub record Putting (l : List ℕ) (at : ℕ) (whole : List ℕ) (m : List ℕ) (i : ℕ) (rest : List ℕ) : Type 0 where
@@ -86,18 +88,14 @@ putting-two {l} {m} {whole} {rest} {at} {i} x y p =
 -- recorded NE: the next sub-object
 pub energies-next : {l m : List ℕ} {at i : ℕ} (b : List ℕ) → Putting l at (clearEach b) m i (clearEach (drop i b)) → i + 2 ≤ length b
     → Putting l at (clearEach b) (set (set m (at + i) (getD b i 0 % 16)) (at + i + 1) (getD b (i + 1) 0)) (i + 2) (clearEach (drop (i + 2) b))
-energies-next {l} {m} {at} {i} b p h =
-    let two : drop i b ≡ getD b i 0 ∷ getD b (i + 1) 0 ∷ drop (i + 2) b =
-    rw (drop-cons b i 0 (omega arith), ← add-one i, drop-cons b (i + 1) 0 (omega arith), add-two i, add-one i) in
-    putting-two (getD b i 0 % 16) (getD b (i + 1) 0) (rw two at p)
+energies-next {l} {m} {at} {i} b p h = putting-two (getD b i 0 % 16) (getD b (i + 1) 0) (rw (step-two b i h) at p)
 
 -- recorded NE: a lone byte at the end
 pub energies-lone : {l m : List ℕ} {at i : ℕ} (b : List ℕ) → Putting l at (clearEach b) m i (clearEach (drop i b)) → i < length b → length b - i < 2
     → Put l at (clearEach b) (at + length b) (set m (at + i) (getD b i 0))
 energies-lone {l} {m} {at} {i} b p h g =
     let e : length b ≡ i + 1 = omega arith in
-    let one : drop i b ≡ getD b i 0 ∷ [] = rw (drop-cons b i 0 h, drop-of-length-le b {i = suc i} (omega arith)) in
-    rw e (putting-end (putting-more (getD b i 0) (rw one at p)))
+    rw e (putting-end (putting-more (getD b i 0) (rw (step-lone b i h g) at p)))
 
 -- recorded NE: no byte left
 pub energies-done : {l m : List ℕ} {at i : ℕ} (b : List ℕ) → Putting l at (clearEach b) m i (clearEach (drop i b)) → i ≤ length b → length b ≤ i → Put l at (clearEach b) (at + length b) m
@@ -144,3 +142,41 @@ module _ {l m : List ℕ} {at i : ℕ} (v : ℕ) (s : List ℕ) (p : Putting l a
   level-added h =
       let d : at + i + 1 ≡ at + (i + 1) = omega arith in
       rw d (putting-end (putting-more (v * 32 + 1) (rw (drop-of-length-le s h) at p)))
+
+-- ---- sub-objects of colour
+
+even : (n : ℕ) → (n ≡ 1 → ⊥) → n ≤ 1 → n ≡ 0
+even zero o h = refl
+even (suc n) o h = absurd (o (omega arith))
+
+module _ {l m : List ℕ} {at n p : ℕ} (v : ℕ) (s : List ℕ) (e : p ≡ placeOf v s) (q : Put l at s n m) where
+  -- one counter changed
+  pub colour-counted : p + 2 ≤ length s → Put l at (countColour v s) n (set m (at + p + 1) (getD s (p + 1) 0 + 1))
+  colour-counted h =
+      let d : at + p + 1 ≡ at + (p + 1) = omega arith in
+      rw (counts-at v s (omega (arith, e, h)), ← e, d) (put-inside (p + 1) (getD s (p + 1) 0 + 1) (omega arith) q)
+
+  -- a lone last byte kept
+  pub colour-lone : length s < p + 2 → length s % 2 ≡ 1 → Put l at (countColour v s) n m
+  colour-lone h o = rw (counts-lone v s (omega (arith, e, h)) o) q
+
+  -- a sub-object added
+  pub colour-added : length s < p + 2 → (length s % 2 ≡ 1 → ⊥) → Put l at (countColour v s) (n + 2) (set (set m n (v / 4)) (n + 1) (v % 4 * 64 + 1))
+  colour-added h o = rw (counts-behind v s (omega (arith, e, h)) (even (length s % 2) o (omega arith))) (put-append q (put-pair m n (v / 4) (v % 4 * 64 + 1)))
+
+-- there is room for the bytes received, and for two more where a sub-object is added
+pub colours-fit : (v : ℕ) (s : List ℕ) → length s ≤ length (countColour v s)
+colours-fit v [] = omega arith
+colours-fit v (x ∷ []) = omega arith
+colours-fit v (x ∷ y ∷ t) = go (gainsIn v x y) (colours-fit v t)
+  where
+    go : (b : Bool) → length t ≤ length (countColour v t) → suc (suc (length t)) ≤ length (cond b (x ∷ (y + 1) ∷ t) (x ∷ y ∷ countColour v t))
+    go true ih = omega arith
+    go false ih = omega arith
+
+pub added-fit : {p : ℕ} (v : ℕ) (s : List ℕ) → p ≡ placeOf v s → length s < p + 2 → (length s % 2 ≡ 1 → ⊥) → length (countColour v s) ≡ length s + 2
+added-fit v s e h o = length-opened v s (omega (arith, e, h)) (even (length s % 2) o (omega arith))
+
+-- a counter that gains one stays in its byte
+pub gained-byte : {p : ℕ} (v : ℕ) (s : List ℕ) → p ≡ placeOf v s → p + 2 ≤ length s → getD s (p + 1) 0 ≤ 255 → getD s (p + 1) 0 + 1 ≤ 255
+gained-byte {p} v s e h b = let r : getD s (p + 1) 0 % 64 < 63 = rw e (room-at v s (omega (arith, e, h))) in omega arith

@@ -108,12 +108,13 @@ module _ (own : Own) (c : Neighbour) (bs out : List ℕ) where
   fit e t = let u : unfit own c (length bs) (length out) ≡ false = sym e ∙ t in rw u
 
   -- what a fit call has
-  pub fit-bounds : {r : Bool} → r ≡ unfit own c (length bs) (length out) → r ≡ false → (own .nodetype ≤ 3) × (c .lql ≤ 7) × (length bs ≤ 257) × (257 ≤ length out)
+  pub fit-bounds : {r : Bool} → r ≡ unfit own c (length bs) (length out) → r ≡ false → (own .nodetype ≤ 3) × (c .lql ≤ 7) × (c .colour ≤ 1023) × (length bs ≤ 257) × (257 ≤ length out)
   fit-bounds e t =
-      let (p, q) = neither (ltb 3 (own .nodetype) || ltb 7 (c .lql) || ltb 257 (length bs)) (ltb (length out) 257) (sym e ∙ t) in
-      let (p1, q1) = neither (ltb 3 (own .nodetype) || ltb 7 (c .lql)) (ltb 257 (length bs)) p in
-      let (p2, q2) = neither (ltb 3 (own .nodetype)) (ltb 7 (c .lql)) p1 in
-      (ltb-false 3 (own .nodetype) p2, ltb-false 7 (c .lql) q2, ltb-false 257 (length bs) q1, ltb-false (length out) 257 q)
+      let (p, q) = neither (ltb 3 (own .nodetype) || ltb 7 (c .lql) || ltb 1023 (c .colour) || ltb 257 (length bs)) (ltb (length out) 257) (sym e ∙ t) in
+      let (p1, q1) = neither (ltb 3 (own .nodetype) || ltb 7 (c .lql) || ltb 1023 (c .colour)) (ltb 257 (length bs)) p in
+      let (p3, q3) = neither (ltb 3 (own .nodetype) || ltb 7 (c .lql)) (ltb 1023 (c .colour)) p1 in
+      let (p2, q2) = neither (ltb 3 (own .nodetype)) (ltb 7 (c .lql)) p3 in
+      (ltb-false 3 (own .nodetype) p2, ltb-false 7 (c .lql) q2, ltb-false 1023 (c .colour) q3, ltb-false 257 (length bs) q1, ltb-false (length out) 257 q)
 
   pub send-nothing : {r : Bool} {s : Sent} → r ≡ unfit own c (length bs) (length out) → r ≡ false → s ≡ sentOf (sendsObjects own c (dataObjects bs)) → s .size ≡ 0
       → (s ≡ sentOf (sends own c bs (length out))) × (out ≡ outputOf (sends own c bs (length out)) out)
@@ -206,5 +207,5 @@ send-built own c bs out l {r} {s} {m} {o} {n} e t p z len f q =
     let w = sends-whole own c bs out p z in
     let whole : take (s .size) m ≡ sent-bytes own c bs out l w = built-is own c bs out l w (s .size) (size-is own c bs out l w p) len (f (w .objects) (w .whole)) in
     let sent : sends own c bs (length out) ≡ nextHop (sent-bytes own c bs out l w) = fit own c bs out e t ∙ whole-is own c bs out l w in
-    let room = room-is own c bs out l w (fit-bounds own c bs out e t .3) in
+    let room = room-is own c bs out l w (fit-bounds own c bs out e t .4) in
     (p ∙ ap sentOf (sym (fit own c bs out e t)), q .written ∙ ap (sets out 0) whole ∙ copied out (sent-bytes own c bs out l w) room ∙ sym (ap (λ x. outputOf x out) sent))

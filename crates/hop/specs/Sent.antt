@@ -13,9 +13,10 @@ use Rattle.model.specs.Update.{update, leafAnswer}
 use Rattle.model.specs.Choice.{Outgoing, noContainer, unlessLeaf, leafOf, sizeOf}
 use Rattle.hop.specs.declared.plan.Sent.{Sent}
 
--- numbers and lengths that no parent of an unrefused call has: own type above 3, LQL above 7, a container over 257 bytes, an output under 257
+-- numbers and lengths that no parent of an unrefused call has: own type above 3, LQL above 7, a colour above 1023, a container over
+-- 257 bytes, an output under 257
 abbrev pub unfit : Own → Neighbour → (size room : ℕ) → Bool
-unfit own c size room = ltb 3 (own .nodetype) || ltb 7 (c .lql) || ltb 257 size || ltb room 257
+unfit own c size room = ltb 3 (own .nodetype) || ltb 7 (c .lql) || ltb 1023 (c .colour) || ltb 257 size || ltb room 257
 
 -- by the objects of the parent's container, which are whole
 abbrev pub sendsObjects : Own → Neighbour → Option (List Object) → Outgoing

@@ -8,6 +8,7 @@ ghost use Rattle.wire.specs.Put.{Put};
 ghost use Rattle.metric.specs.Next.{clearFirst, clearSecond};
 use crate::aggregated;
 use crate::bytes;
+use crate::colours;
 use crate::recorded;
 use model::Neighbour;
 use model::Own;
@@ -39,11 +40,14 @@ pub(crate) fn put_body(
     header: Header,
     body: &[u8],
 ) -> usize
-    requires { ⌜ (own .nodetype ≤ 3) × (neighbour .lql ≤ 7) ⌝ }
+    requires { ⌜ (own .nodetype ≤ 3) × (neighbour .lql ≤ 7) × (neighbour .colour ≤ 1023) ⌝ }
     requires { ⌜ at + length (nextBody own neighbour (kindOf (header .mctype)) (roleOf (header .flags) (header .mode)) (header .mode / 16 % 8) (now body)) ≤ length (now out) ⌝ }
     ensures { λ r. ⌜ Put (now (out .entry)) at (nextBody own neighbour (kindOf (header .mctype)) (roleOf (header .flags) (header .mode)) (header .mode / 16 % 8) (now (body .entry))) r (now (out .exit)) ⌝ }
 {
     if wire::is_constraint(header) {
+        if header.mctype == 8 {
+            return colours::put_cleared(out, at, body);
+        }
         return put_constraint(out, at, header.mctype, body);
     }
     if wire::is_recorded(header) {

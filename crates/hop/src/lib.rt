@@ -2,6 +2,7 @@
 mod aggregated;
 mod bodies;
 mod bytes;
+mod colours;
 mod levels;
 mod plan;
 mod recorded;

@@ -7,6 +7,7 @@ ghost use Rattle.model.specs.Update.{subObject, clearEach, ownEnergy, countedBo
 ghost use Rattle.model.specs.Update as update;
 ghost use Rattle.wire.specs.Put.{Put};
 use crate::bytes;
+use crate::colours;
 use crate::levels;
 use model::Neighbour;
 use model::Own;
@@ -91,7 +92,7 @@ pub(crate) fn put_recorded(
     mctype: u8,
     body: &[u8],
 ) -> usize
-    requires { ⌜ (own .nodetype ≤ 3) × (neighbour .lql ≤ 7) ⌝ }
+    requires { ⌜ (own .nodetype ≤ 3) × (neighbour .lql ≤ 7) × (neighbour .colour ≤ 1023) ⌝ }
     requires { ⌜ at + length (recordedBody own neighbour (kindOf mctype) (now body)) ≤ length (now out) ⌝ }
     ensures { λ r. ⌜ Put (now (out .entry)) at (recordedBody own neighbour (kindOf mctype) (now (body .entry))) r (now (out .exit)) ⌝ }
 {
@@ -101,6 +102,9 @@ pub(crate) fn put_recorded(
     }
     if mctype == 6 {
         return put_counted(out, at, neighbour.lql, body);
+    }
+    if mctype == 8 {
+        return colours::put_coloured(out, at, neighbour.colour, body);
     }
     let q = metric::link_value(neighbour, mctype);
     if mctype == 4 {

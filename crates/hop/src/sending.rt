@@ -31,7 +31,7 @@ fn put_object(
     header: Header,
     body: &[u8],
 ) -> usize
-    requires { ⌜ (own .nodetype ≤ 3) × (neighbour .lql ≤ 7) ⌝ }
+    requires { ⌜ (own .nodetype ≤ 3) × (neighbour .lql ≤ 7) × (neighbour .colour ≤ 1023) ⌝ }
     requires { ⌜ at + length (bytesOf (updateObject own neighbour (objectOf header (now body)))) ≤ length (now out) ⌝ }
     requires { ⌜ length (now out) ≤ 257 ⌝ }
     ensures { λ r. ⌜ Put (now (out .entry)) at (bytesOf (updateObject own neighbour (objectOf header (now (body .entry))))) r (now (out .exit)) ⌝ }
@@ -46,7 +46,7 @@ fn put_object(
 
 // Puts the objects of a container for the next hop, behind the two bytes of its frame.
 fn put_objects(out: &mut [u8], own: Own, neighbour: Neighbour, container: &[u8])
-    requires { ⌜ (own .nodetype ≤ 3) × (neighbour .lql ≤ 7) ⌝ }
+    requires { ⌜ (own .nodetype ≤ 3) × (neighbour .lql ≤ 7) × (neighbour .colour ≤ 1023) ⌝ }
     requires { ⌜ length (now out) ≡ 257 ⌝ }
     requires { ⌜ Fits own neighbour (now container) ⌝ }
     ensures { λ r. ⌜ ((os : List Object) → dataObjects (now (container .entry)) ≡ some os → now (out .exit) ≡ sets (now (out .entry)) 2 (join (update own neighbour os))) ⌝ }
@@ -78,7 +78,11 @@ fn put_objects(out: &mut [u8], own: Own, neighbour: Neighbour, container: &[u8])
 fn is_unfit(own: Own, neighbour: Neighbour, size: usize, room: usize) -> bool
     ensures { λ r. ⌜ r ≡ unfit own neighbour size room ⌝ }
 {
-    (3 < own.nodetype) | (7 < neighbour.lql) | (257 < size) | (room < 257)
+    (3 < own.nodetype)
+        | (7 < neighbour.lql)
+        | (1023 < neighbour.colour)
+        | (257 < size)
+        | (room < 257)
 }
 
 // Writes the container for the next hop, or answers why there is none. It is built apart, and copied to the output when whole.

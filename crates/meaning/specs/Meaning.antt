@@ -16,13 +16,13 @@ table =
     (3, "the current parent's position is not below the number of candidates") ∷
     (4, "the output is shorter than 257 bytes") ∷
     (10, "unbarred") ∷
-    (11, "Sp is not 1 to 9, Rf is not 1 to 4, Sr is above 5, LQL is above 7, or the type is above 3") ∷
+    (11, "Sp not 1 to 9, Rf not 1 to 4, Sr above 5, LQL above 7, type above 3, or colour above 1023") ∷
     (12, "the container is not inside the lent bytes") ∷
     (13, "the container is under 2 bytes, does not start with 2, or its data length is wrong") ∷
     (14, "an object's header or body runs past the end of the container") ∷
     (15, "an object of known type has a body that its type does not allow, or a TLV overruns") ∷
     (16, "an object of known type stood before, as constraint or as metric both times") ∷
-    (17, "an NSA or HP metric is recorded, or an LQL metric is not") ∷
+    (17, "an NSA or HP metric is recorded, or an LQL or colour metric is not") ∷
     (18, "a mandatory constraint of unknown type") ∷
     (19, "a mandatory constraint is not met") ∷
     (20, "the advertised rank is 65535, or the resulting rank is 65535 or more") ∷

@@ -9,20 +9,20 @@ ghost use Rattle.meaning.specs.Table.{wordsBefore};
 pub const MEANING_ROOM: usize = 100;
 
 // The words for 0, for 1 and so on, end to end; a number without a meaning has none.
-const WORDS: [u8; 1322] = *b"\
+const WORDS: [u8; 1332] = *b"\
     nothing to report: not refused, no leaf answer, or no candidate at this position\
     MinHopRankIncrease is 0, or the node's own type is above 3\
     more than 16 candidates\
     the current parent's position is not below the number of candidates\
     the output is shorter than 257 bytes\
     unbarred\
-    Sp is not 1 to 9, Rf is not 1 to 4, Sr is above 5, LQL is above 7, or the type is above 3\
+    Sp not 1 to 9, Rf not 1 to 4, Sr above 5, LQL above 7, type above 3, or colour above 1023\
     the container is not inside the lent bytes\
     the container is under 2 bytes, does not start with 2, or its data length is wrong\
     an object's header or body runs past the end of the container\
     an object of known type has a body that its type does not allow, or a TLV overruns\
     an object of known type stood before, as constraint or as metric both times\
-    an NSA or HP metric is recorded, or an LQL metric is not\
+    an NSA or HP metric is recorded, or an LQL or colour metric is not\
     a mandatory constraint of unknown type\
     a mandatory constraint is not met\
     the advertised rank is 65535, or the resulting rank is 65535 or more\
@@ -38,9 +38,9 @@ const WORDS: [u8; 1322] = *b"\
 // Where the words for each number begin, ten numbers to a line.
 const STARTS: [[u16; 10]; 4] = [
     [0, 80, 138, 161, 228, 264, 264, 264, 264, 264],
-    [264, 272, 361, 403, 485, 546, 628, 703, 759, 797],
-    [830, 898, 976, 976, 976, 976, 976, 976, 976, 976],
-    [976, 976, 1012, 1072, 1158, 1186, 1249, 1322, 1322, 1322],
+    [264, 272, 361, 403, 485, 546, 628, 703, 769, 807],
+    [840, 908, 986, 986, 986, 986, 986, 986, 986, 986],
+    [986, 986, 1022, 1082, 1168, 1196, 1259, 1332, 1332, 1332],
 ];
 
 // Where the words for a number begin among all words.
@@ -52,7 +52,7 @@ fn start_of(number: usize) -> usize
 }
 
 // All words: one copy for a call, where an index into the constant would make one each time.
-fn all_words() -> [u8; 1322]
+fn all_words() -> [u8; 1332]
     ensures { λ r. ⌜ r ≡ wordsBefore 37 ⌝ }
 {
     WORDS

@@ -11,7 +11,7 @@ use Rattle.model.specs.declared.Quantity.the-variants.{Known, Unknown}
 use Rattle.model.specs.declared.Own.{Own}
 use Rattle.model.specs.declared.Neighbour.{Neighbour}
 use Rattle.model.specs.Number.{isSet, number}
-use Rattle.model.specs.Object.{object, kindOf, Kind, unknown, lql, node, scalar, roleOf, constraint, recorded, aggregated}
+use Rattle.model.specs.Object.{object, kindOf, Kind, unknown, lql, colour, node, scalar, roleOf, constraint, recorded, aggregated}
 use Rattle.model.specs.Update.{mustFit, widthOf, isBeyond, objectLeaf}
 use Rattle.model.proofs.TypeLaws.{by-type}
 use Rattle.wire.specs.Number.{numberIn}
@@ -51,14 +51,14 @@ module _ (c : Neighbour) (b : List ℕ) where
   pub beyond-other : (t : ℕ) → not (eqb t 4) && not (eqb t 5) ≡ true → false ≡ isBeyond c (kindOf t) b
   unfolding kindOf
   beyond-other = by-type (λ t. not (eqb t 4) && not (eqb t 5) ≡ true → false ≡ isBeyond c (kindOf t) b)
-      (λ e. refl) (λ e. refl) (λ e. refl) (λ e. refl) (λ e. absurd (false≢true e)) (λ e. absurd (false≢true e)) (λ e. refl) (λ e. refl) (λ t p e. rw (p .kind))
+      (λ e. refl) (λ e. refl) (λ e. refl) (λ e. refl) (λ e. absurd (false≢true e)) (λ e. absurd (false≢true e)) (λ e. refl) (λ e. refl) (λ e. refl) (λ t p e. rw (p .kind))
 
   pub beyond-known : (t v : ℕ) → not (eqb t 4) && not (eqb t 5) ≡ false → linkOf c (kindOf t) ≡ Known v → v < 4294967296
       → isOver (sumIn 4294967295 (numberIn 4 b) v) ≡ isBeyond c (kindOf t) b
   unfolding kindOf
   beyond-known t v e l h = past-number b v h ∙ by-type (λ t. not (eqb t 4) && not (eqb t 5) ≡ false → linkOf c (kindOf t) ≡ Known v
       → eqb (length b) 4 && ltb 4294967295 (number b + v) ≡ isBeyond c (kindOf t) b)
-      other other other other (λ e l. rw l) (λ e l. rw l) other other (λ t p e. absurd (true≢false (rw (p .four, p .five) at e))) t e l
+      other other other other (λ e l. rw l) (λ e l. rw l) other other other (λ t p e. absurd (true≢false (rw (p .four, p .five) at e))) t e l
     where
       other : {A B : Type 0} → true ≡ false → A → B
       other e a = absurd (true≢false e)
@@ -69,6 +69,7 @@ module _ (c : Neighbour) (b : List ℕ) where
       go : (k : Kind) → linkOf c k ≡ Unknown → false ≡ isBeyond c k b
       go unknown l = refl
       go lql l = refl
+      go colour l = refl
       go (node n) l = refl
       go (scalar s) l = rw l (sym (and-false (mustFit s && eqb (length b) (widthOf s))))
 

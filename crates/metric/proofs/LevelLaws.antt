@@ -1,4 +1,4 @@
--- The levels of a recorded LQL metric: whether some sub-object is counted.
+-- The sub-objects of a recorded LQL metric: whether some is counted.
 use mathlib.Core.Path.{_≡_, sym, _∙_}
 use Prim.Native.Nat.{ℕ, _+_, _≤_, _<_}
 use native.Mathlib.Numerals.{add-one}

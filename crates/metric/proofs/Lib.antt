@@ -4,3 +4,4 @@ pub mod ValueLaws
 pub mod LeafLaws
 pub mod SizeLaws
 pub mod LevelLaws
+pub mod ColourLaws

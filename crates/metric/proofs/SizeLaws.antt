@@ -1,6 +1,6 @@
 -- How long bodies are for the next hop.
 use mathlib.Core.Path.{_≡_, refl, sym, ap, _∙_}
-use Prim.Native.Nat.{ℕ, zero, suc, _+_, _-_}
+use Prim.Native.Nat.{ℕ, zero, suc, _+_, _-_, _%_, _≤_, _<_}
 use native.Mathlib.Omega.{arith}
 use mathlib.Core.Bool.{Bool, true, false, cond, _||_}
 use mathlib.Core.List.{List, [], _∷_, _++_}
@@ -13,12 +13,14 @@ use Rattle.model.specs.declared.Quantity.the-variants.{Known, Unknown}
 use Rattle.model.specs.declared.Own.{Own}
 use Rattle.model.specs.declared.Neighbour.{Neighbour}
 use Rattle.model.specs.Number.{isUnknown, anyOf, bigEndian, number}
-use Rattle.model.specs.Object.{Kind, unknown, lql, node, scalar, Role, constraint, recorded, aggregated, kindOf, roleOf, isRecorded}
+use Rattle.model.specs.Object.{Kind, unknown, lql, colour, node, scalar, Role, constraint, recorded, aggregated, kindOf, roleOf, isRecorded}
 use Rattle.model.specs.Constraint.{energyIn}
-use Rattle.model.specs.Update.{localValue, valueOr0, onField, combine, widthOf, mostOf, clear0, clear1, combine1, aggregatedBody, constraintBody, subObject, clearEach, ownEnergy, countLevel, countedBody, recordedBody, nextBody}
-use Rattle.model.proofs.ShapeLaws.{length-onTwo, length-clearEach, length-ownEnergy}
+use Rattle.model.specs.Update.{localValue, valueOr0, onField, combine, widthOf, mostOf, clear0, clear1, combine1, aggregatedBody, constraintBody, subObject, clearEach, ownEnergy, countLevel, countedBody, countColour, colouredBody, recordedBody, nextBody}
+use Rattle.model.proofs.ShapeLaws.{length-onTwo, length-clearEach, length-ownEnergy, length-clearColour}
 use Rattle.metric.specs.Next.{linkOf, countsIn}
+use Rattle.metric.specs.Colours.{gainsIn, placeOf}
 use Rattle.metric.proofs.KindLaws.{recordedBy, recorded-by}
+use Rattle.metric.proofs.ColourLaws.{length-gained, length-opened}
 
 -- ---- recorded metrics
 
@@ -29,6 +31,16 @@ length-levels v (x ∷ s) = go (countsIn v x) (length-levels v s)
     go : (b : Bool) → length (countLevel v s) ≡ length s + cond (anyOf (countsIn v) s) 0 1
         → length (cond b ((x + 1) ∷ s) (x ∷ countLevel v s)) ≡ suc (length s) + cond (b || anyOf (countsIn v) s) 0 1
     go true ih = omega arith
+    go false ih = omega arith
+
+-- colours: a lone last byte is kept
+length-odd : (v : ℕ) (s : List ℕ) → length s % 2 ≡ 1 → length (countColour v s) ≡ length s
+length-odd v [] h = absurd (omega arith)
+length-odd v (x ∷ []) h = refl
+length-odd v (x ∷ y ∷ s) h = go (gainsIn v x y) (length-odd v s (omega arith))
+  where
+    go : (b : Bool) → length (countColour v s) ≡ length s → length (cond b (x ∷ (y + 1) ∷ s) (x ∷ y ∷ countColour v s)) ≡ suc (suc (length s))
+    go true ih = refl
     go false ih = omega arith
 
 sub-none : (w : ℕ) (q : Quantity) → isUnknown q ≡ true → subObject w q ≡ []
@@ -77,9 +89,43 @@ module _ (own : Own) (c : Neighbour) (t : ℕ) (b : List ℕ) where
   pub grows-level : {r : Bool} → t ≡ 6 → (length b ≡ 0 → ⊥) → r ≡ anyOf (countsIn (c .lql)) (take (length b - 1) (drop 1 b)) → r ≡ false → length b + 1 ≡ length (recordedBody own c (kindOf t) b)
   grows-level {r} e z q h = rw h at (level-by r e z q)
 
-  -- a metric that is neither NE nor LQL gains the sub-object, wherever it stands
-  link-is : (t ≡ 2 → ⊥) → (t ≡ 6 → ⊥) → length (recordedBy own c t b) ≡ length b + cond (eqb t 7) (length (subObject 2 (linkOf c (kindOf t)))) (length (subObject 4 (linkOf c (kindOf t))))
-  link-is p q = rw (ne-eqb t 2 p, ne-eqb t 6 q) (go (eqb t 4) refl)
+  colour-is : t ≡ 8 → length (recordedBy own c t b) ≡ length (colouredBody (c .colour) b)
+  colour-is e = rw (ne-eqb t 2 (λ d. omega arith), ne-eqb t 6 (λ d. omega arith), eq-eqb t 8 e)
+
+  pub grows-uneven : t ≡ 8 → length b % 2 ≡ 0 → length b + 0 ≡ length (recordedBody own c (kindOf t) b)
+  grows-uneven e z = by-law (go b z ∙ sym (colour-is e))
+    where
+      go : (b : List ℕ) → length b % 2 ≡ 0 → length b + 0 ≡ length (colouredBody (c .colour) b)
+      go [] z = refl
+      go (x ∷ s) z = let l = length-odd (c .colour) s (omega arith) in omega arith
+
+  -- the sub-objects behind the reserved byte, as code has them
+  behind : (b : List ℕ) → length b % 2 ≡ 1 → (length b ≡ 1 + length (take (length b - 1) (drop 1 b))) × (length (colouredBody (c .colour) b) ≡ 1 + length (countColour (c .colour) (take (length b - 1) (drop 1 b))))
+  behind [] z = absurd (omega arith)
+  behind (x ∷ s) z =
+      let whole : take (suc (length s) - 1) s ≡ s = take-all (suc (length s) - 1) s (omega arith) in
+      rw whole (omega arith, omega arith)
+
+  odd : (n : ℕ) → (n ≡ 0 → ⊥) → n ≤ 1 → n ≡ 1
+  odd zero z h = absurd (z refl)
+  odd (suc n) z h = omega arith
+
+  pub grows-gained : {p : ℕ} → t ≡ 8 → (length b % 2 ≡ 0 → ⊥) → p ≡ placeOf (c .colour) (take (length b - 1) (drop 1 b)) → p + 2 < length b → length b + 0 ≡ length (recordedBody own c (kindOf t) b)
+  grows-gained {p} e z q h =
+      let (m, n) = behind b (odd (length b % 2) z (omega arith)) in
+      let l = length-gained (c .colour) (take (length b - 1) (drop 1 b)) (omega (arith, m, q, h)) in
+      by-law (omega (arith, m, n, l) ∙ sym (colour-is e))
+
+  pub grows-colour : {p : ℕ} → t ≡ 8 → (length b % 2 ≡ 0 → ⊥) → p ≡ placeOf (c .colour) (take (length b - 1) (drop 1 b)) → length b ≤ p + 2 → length b + 2 ≡ length (recordedBody own c (kindOf t) b)
+  grows-colour {p} e z q h =
+      let y = odd (length b % 2) z (omega arith) in
+      let (m, n) = behind b y in
+      let l = length-opened (c .colour) (take (length b - 1) (drop 1 b)) (omega (arith, m, q, h)) (omega (arith, m, y)) in
+      by-law (omega (arith, m, n, l) ∙ sym (colour-is e))
+
+  -- a metric that is neither NE nor LQL nor colour gains the sub-object, wherever it stands
+  link-is : (t ≡ 2 → ⊥) → (t ≡ 6 → ⊥) → (t ≡ 8 → ⊥) → length (recordedBy own c t b) ≡ length b + cond (eqb t 7) (length (subObject 2 (linkOf c (kindOf t)))) (length (subObject 4 (linkOf c (kindOf t))))
+  link-is p q o = rw (ne-eqb t 2 p, ne-eqb t 6 q, ne-eqb t 8 o) (go (eqb t 4) refl)
     where
       go : (r : Bool) → eqb t 4 ≡ r
           → length (cond r (subObject 4 (linkOf c (kindOf t)) ++ b) (cond (eqb t 7) (b ++ subObject 2 (linkOf c (kindOf t))) (b ++ subObject 4 (linkOf c (kindOf t)))))
@@ -92,10 +138,10 @@ module _ (own : Own) (c : Neighbour) (t : ℕ) (b : List ℕ) where
           more true = length-append b (subObject 2 (linkOf c (kindOf t)))
           more false = length-append b (subObject 4 (linkOf c (kindOf t)))
 
-  pub grows-nothing : {r : Bool} {k : Quantity} → (t ≡ 2 → ⊥) → (t ≡ 6 → ⊥) → k ≡ linkOf c (kindOf t) → r ≡ isUnknown k → r ≡ true → length b + 0 ≡ length (recordedBody own c (kindOf t) b)
-  grows-nothing {r} {k} p q e d h =
+  pub grows-nothing : {r : Bool} {k : Quantity} → (t ≡ 2 → ⊥) → (t ≡ 6 → ⊥) → (t ≡ 8 → ⊥) → k ≡ linkOf c (kindOf t) → r ≡ isUnknown k → r ≡ true → length b + 0 ≡ length (recordedBody own c (kindOf t) b)
+  grows-nothing {r} {k} p q o e d h =
       let u : isUnknown (linkOf c (kindOf t)) ≡ true = sym (d ∙ ap isUnknown e) ∙ h in
-      by-law (sym (link-is p q ∙ rw (sub-none 2 (linkOf c (kindOf t)) u, sub-none 4 (linkOf c (kindOf t)) u) (go (eqb t 7))))
+      by-law (sym (link-is p q o ∙ rw (sub-none 2 (linkOf c (kindOf t)) u, sub-none 4 (linkOf c (kindOf t)) u) (go (eqb t 7))))
     where
       go : (s : Bool) → length b + cond s (length {A = ℕ} []) (length {A = ℕ} []) ≡ length b + 0
       go true = refl
@@ -104,12 +150,12 @@ module _ (own : Own) (c : Neighbour) (t : ℕ) (b : List ℕ) where
   pub grows-2 : {r : Bool} {k : Quantity} → t ≡ 7 → k ≡ linkOf c (kindOf t) → r ≡ isUnknown k → r ≡ false → length b + 2 ≡ length (recordedBody own c (kindOf t) b)
   grows-2 {r} {k} v e d h =
       let u : isUnknown (linkOf c (kindOf t)) ≡ false = sym (d ∙ ap isUnknown e) ∙ h in
-      by-law (sym (link-is (λ x. omega arith) (λ x. omega arith) ∙ rw (eq-eqb t 7 v, sub-some 2 (linkOf c (kindOf t)) u)))
+      by-law (sym (link-is (λ x. omega arith) (λ x. omega arith) (λ x. omega arith) ∙ rw (eq-eqb t 7 v, sub-some 2 (linkOf c (kindOf t)) u)))
 
-  pub grows-4 : {r : Bool} {k : Quantity} → (t ≡ 2 → ⊥) → (t ≡ 6 → ⊥) → (t ≡ 7 → ⊥) → k ≡ linkOf c (kindOf t) → r ≡ isUnknown k → r ≡ false → length b + 4 ≡ length (recordedBody own c (kindOf t) b)
-  grows-4 {r} {k} p q v e d h =
+  pub grows-4 : {r : Bool} {k : Quantity} → (t ≡ 2 → ⊥) → (t ≡ 6 → ⊥) → (t ≡ 8 → ⊥) → (t ≡ 7 → ⊥) → k ≡ linkOf c (kindOf t) → r ≡ isUnknown k → r ≡ false → length b + 4 ≡ length (recordedBody own c (kindOf t) b)
+  grows-4 {r} {k} p q o v e d h =
       let u : isUnknown (linkOf c (kindOf t)) ≡ false = sym (d ∙ ap isUnknown e) ∙ h in
-      by-law (sym (link-is p q ∙ rw (ne-eqb t 7 v, sub-some 4 (linkOf c (kindOf t)) u)))
+      by-law (sym (link-is p q o ∙ rw (ne-eqb t 7 v, sub-some 4 (linkOf c (kindOf t)) u)))
 
 -- ---- constraints and aggregated metrics keep their length
 
@@ -124,6 +170,7 @@ pub length-constraint : (k : Kind) (b : List ℕ) → length (constraintBody k b
 unfolding constraintBody
 length-constraint unknown b = refl
 length-constraint lql b = length-onTwo (λ x. 0) (λ y. y) b
+length-constraint colour b = length-clearColour b
 length-constraint (node n) b = length-onTwo (clear0 n) (clear1 n) b
 length-constraint (scalar s) b = refl
 
@@ -131,6 +178,7 @@ pub length-aggregated : (k : Kind) (a v : ℕ) (b : List ℕ) → length (aggreg
 unfolding aggregatedBody
 length-aggregated unknown a v b = refl
 length-aggregated lql a v b = refl
+length-aggregated colour a v b = refl
 length-aggregated (node n) a v b = length-onTwo (clear0 n) (combine1 n a v) b
 length-aggregated (scalar s) a v b = length-field (widthOf s) (λ x. combine a (mostOf s) x v) b
 

@@ -9,7 +9,7 @@ use Rattle.model.specs.declared.Neighbour.{Neighbour}
 use Rattle.model.specs.Number.{isUnknown}
 use mathlib.Core.List.{List}
 use lib.ListN.{getD}
-use Rattle.model.specs.Object.{Kind, unknown, lql, node, scalar, known, isHp}
+use Rattle.model.specs.Object.{Kind, unknown, lql, colour, node, scalar, known, isHp}
 use Rattle.model.specs.Constraint.{linkValue}
 use Rattle.model.specs.Table.{allowed}
 use Rattle.model.specs.Update.{localValue, clear0, clear1, combine1, noEnergy, isBeyond}
@@ -18,6 +18,7 @@ use Rattle.model.specs.Update.{localValue, clear0, clear1, combine1, noEnergy, 
 abbrev pub linkOf : Neighbour → Kind → Quantity
 linkOf c unknown = Unknown
 linkOf c lql = Unknown
+linkOf c colour = Unknown
 linkOf c (node n) = Unknown
 linkOf c (scalar s) = linkValue c s
 
@@ -25,6 +26,7 @@ linkOf c (scalar s) = linkValue c s
 abbrev pub clearFirst : Kind → ℕ → ℕ
 clearFirst unknown x = x
 clearFirst lql x = 0
+clearFirst colour x = 0
 clearFirst (node n) x = clear0 n x
 clearFirst (scalar s) x = x
 
@@ -32,6 +34,7 @@ clearFirst (scalar s) x = x
 abbrev pub clearSecond : Kind → ℕ → ℕ
 clearSecond unknown y = y
 clearSecond lql y = y
+clearSecond colour y = y
 clearSecond (node n) y = clear1 n y
 clearSecond (scalar s) y = y
 
@@ -39,6 +42,7 @@ clearSecond (scalar s) y = y
 abbrev pub combineSecond : Kind → (a v y : ℕ) → ℕ
 combineSecond unknown a v y = y
 combineSecond lql a v y = y
+combineSecond colour a v y = y
 combineSecond (node n) a v y = combine1 n a v y
 combineSecond (scalar s) a v y = y
 

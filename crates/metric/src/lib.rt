@@ -1,4 +1,5 @@
 // What this hop makes of one metric or constraint: leaf answers 31 to 34 and 36, header bytes, values, and the bytes of changed bodies.
+mod colours;
 mod headers;
 mod leaves;
 mod levels;
@@ -6,6 +7,8 @@ mod pairs;
 mod sizes;
 mod values;
 
+pub use colours::clear_third;
+pub use colours::place_of;
 pub use headers::next_flags;
 pub use headers::next_mode;
 pub use leaves::object_leaf;

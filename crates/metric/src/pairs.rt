@@ -12,7 +12,7 @@ pub fn clear_first(mctype: u8, x: u8) -> u8
     if mctype == 2 {
         return x % 16;
     }
-    if (mctype == 1) | (mctype == 3) | (mctype == 6) {
+    if (mctype == 1) | (mctype == 3) | (mctype == 6) | (mctype == 8) {
         return 0;
     }
     x

@@ -5,6 +5,7 @@ ghost use lib.ListN.{length};
 ghost use Rattle.model.specs.declared.Own.{Own};
 ghost use Rattle.model.specs.Object.{kindOf, roleOf};
 ghost use Rattle.model.specs.Update.{nextBody, recordedBody};
+use crate::colours;
 use crate::levels;
 use crate::values;
 use model::Neighbour;
@@ -26,6 +27,15 @@ fn recorded_growth(neighbour: Neighbour, mctype: u8, body: &[u8]) -> usize
             return 0;
         }
         return 1;
+    }
+    if mctype == 8 {
+        if body.len() % 2 == 0 {
+            return 0;
+        }
+        if colours::place_of(neighbour.colour, &body[1..]) + 2 < body.len() {
+            return 0;
+        }
+        return 2;
     }
     if values::is_unknown(values::link_value(neighbour, mctype)) {
         return 0;

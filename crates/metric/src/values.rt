@@ -52,6 +52,9 @@ pub(crate) fn local_value(own: Own, neighbour: Neighbour, mctype: u8) -> Quantit
     if mctype == 6 {
         return Quantity::Known(neighbour.lql as u32);
     }
+    if mctype == 8 {
+        return Quantity::Known(neighbour.colour as u32);
+    }
     link_value(neighbour, mctype)
 }
 

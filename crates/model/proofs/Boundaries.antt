@@ -41,4 +41,14 @@ boundaries = record {
   bitVerdicts = refl;
   bitRefusals = refl;
   bitContainers = refl;
+  bar11Colours = refl;
+  colourBodies = refl;
+  colourObjects = refl;
+  bar19Colours = refl;
+  eachColourBit = refl;
+  leafColours = refl;
+  recordedColours = refl;
+  constraintColours = refl;
+  colourTexts = refl;
+  cutColours = refl;
 }

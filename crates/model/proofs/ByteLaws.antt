@@ -13,10 +13,10 @@ use Rattle.model.specs.declared.Quantity.the-variants.{Known, Unknown}
 use Rattle.model.specs.declared.Own.{Own}
 use Rattle.model.specs.declared.Neighbour.{Neighbour}
 use Rattle.model.specs.Number.{isSet, anyOf, number, bigEndian}
-use Rattle.model.specs.Object.{Object, fieldA, join, container, Kind, unknown, lql, node, scalar, Node, nsa, ne, hp, throughput, latency, etx, kind, Role, constraint, recorded, aggregated, role}
-use Rattle.model.specs.Constraint.{linkValue}
+use Rattle.model.specs.Object.{Object, fieldA, join, container, Kind, unknown, lql, colour, node, scalar, Node, nsa, ne, hp, throughput, latency, etx, kind, Role, constraint, recorded, aggregated, role}
+use Rattle.model.specs.Constraint.{linkValue, colourIn}
 use Rattle.model.specs.Verdict.{containerOf}
-use Rattle.model.specs.Update.{localValue, valueOr0, combine, onTwo, onField, clear0, combine1, widthOf, mostOf, aggregatedBody, clear1, constraintBody, subObject, clearEach, ownEnergy, countLevel, countedBody, recordedBody, addsNothing, nextBody, nextFlags, nextMode, updateObject, update}
+use Rattle.model.specs.Update.{localValue, valueOr0, combine, onTwo, onField, clear0, combine1, widthOf, mostOf, aggregatedBody, clear1, constraintBody, subObject, clearEach, ownEnergy, behindReserved, countLevel, clearColour, countColour, recordedBody, addsNothing, nextBody, nextFlags, nextMode, updateObject, update}
 use Rattle.model.specs.RoundTrip.{Bytes}
 use Rattle.model.specs.ReadBack.{PassesBytes}
 use Rattle.model.proofs.ListLaws.{any-append}
@@ -124,9 +124,34 @@ countLevel-bytes v l (x ∷ t) h = let (a, k) = first-byte x t h in go (eqb (x /
     go true e a k ih = let s = ltb-true (x % 32) 31 (both (eqb (x / 32) v) (ltb (x % 32) 31) e .1) in more-bytes (x + 1) t (omega arith) k
     go false e a k ih = more-bytes x (countLevel v t) a ih
 
-countedBody-bytes : (v : ℕ) → v ≤ 7 → (b : List ℕ) → Bytes b → Bytes (countedBody v b)
-countedBody-bytes v l [] h = h
-countedBody-bytes v l (x ∷ t) h = countLevel-bytes v l t (first-byte x t h .1)
+behind-bytes : (f : List ℕ → List ℕ) → ((t : List ℕ) → Bytes t → Bytes (f t)) → (b : List ℕ) → Bytes b → Bytes (behindReserved f b)
+behind-bytes f g [] h = h
+behind-bytes f g (x ∷ t) h = g t (first-byte x t h .1)
+
+clearColour-bytes : (b : List ℕ) → Bytes b → Bytes (clearColour b)
+clearColour-bytes [] h = h
+clearColour-bytes (x ∷ []) h = h
+clearColour-bytes (x ∷ y ∷ []) h = h
+clearColour-bytes (x ∷ y ∷ z ∷ t) h =
+    let (a, k) = first-byte x (y ∷ z ∷ t) h in
+    let (d, l) = first-byte y (z ∷ t) k in
+    let (e, m) = first-byte z t l in
+    more-bytes 0 (y ∷ (z / 64 * 64 + z % 2) ∷ t) (omega arith) (more-bytes y ((z / 64 * 64 + z % 2) ∷ t) d (more-bytes (z / 64 * 64 + z % 2) t (omega arith) m))
+
+countColour-bytes : (v : ℕ) → v ≤ 1023 → (b : List ℕ) → Bytes b → Bytes (countColour v b)
+countColour-bytes v l [] h = more-bytes (v / 4) ((v % 4 * 64 + 1) ∷ []) (omega arith) (more-bytes (v % 4 * 64 + 1) [] (omega arith) refl)
+countColour-bytes v l (x ∷ []) h = h
+countColour-bytes v l (x ∷ y ∷ t) h =
+    let (a, k) = first-byte x (y ∷ t) h in
+    let (d, m) = first-byte y t k in
+    go (eqb (colourIn x y) v && ltb (y % 64) 63) refl a d m (countColour-bytes v l t m)
+  where
+    go : (b : Bool) → eqb (colourIn x y) v && ltb (y % 64) 63 ≡ b → x ≤ 255 → y ≤ 255 → Bytes t → Bytes (countColour v t)
+        → Bytes (cond b (x ∷ (y + 1) ∷ t) (x ∷ y ∷ countColour v t))
+    go true e a d m ih =
+        let s = ltb-true (y % 64) 63 (both (eqb (colourIn x y) v) (ltb (y % 64) 63) e .1) in
+        more-bytes x ((y + 1) ∷ t) a (more-bytes (y + 1) t (omega arith) m)
+    go false e a d m ih = more-bytes x (y ∷ countColour v t) a (more-bytes y (countColour v t) d ih)
 
 -- ---- headers
 
@@ -153,7 +178,7 @@ mode-byte aggregated m h = h
 
 -- ---- objects
 
-module _ (own : Own) (c : Neighbour) (e : own .energy ≤ 255) (t : own .nodetype ≤ 3) (q : c .lql ≤ 7) where
+module _ (own : Own) (c : Neighbour) (e : own .energy ≤ 255) (t : own .nodetype ≤ 3) (q : c .lql ≤ 7) (k : c .colour ≤ 1023) where
   local-byte : (n : Node) → valueOr0 (localValue own c (node n)) ≤ 255
   unfolding localValue
   local-byte nsa = omega arith
@@ -163,6 +188,7 @@ module _ (own : Own) (c : Neighbour) (e : own .energy ≤ 255) (t : own .nodetyp
   constraint-bytes : (k : Kind) (b : List ℕ) → Bytes b → Bytes (constraintBody k b)
   unfolding constraintBody
   constraint-bytes unknown b h = h
+  constraint-bytes colour b h = clearColour-bytes b h
   constraint-bytes lql b h = onTwo-bytes (λ x. 0) (λ y. y) (λ x g. omega arith) (λ y g. g) b h
   constraint-bytes (node n) b h = onTwo-bytes (clear0 n) (clear1 n) (clear0-byte n) (clear1-byte n) b h
   constraint-bytes (scalar s) b h = h
@@ -171,6 +197,7 @@ module _ (own : Own) (c : Neighbour) (e : own .energy ≤ 255) (t : own .nodetyp
   unfolding aggregatedBody
   aggregated-bytes unknown a b h = h
   aggregated-bytes lql a b h = h
+  aggregated-bytes colour a b h = h
   aggregated-bytes (node n) a b h =
       onTwo-bytes (clear0 n) (combine1 n a (valueOr0 (localValue own c (node n)))) (clear0-byte n) (combine1-byte n a (valueOr0 (localValue own c (node n))) (local-byte n)) b h
   aggregated-bytes (scalar s) a b h = onField-bytes (widthOf s) (λ x. combine a (mostOf s) x (valueOr0 (localValue own c (scalar s)))) b h
@@ -178,7 +205,8 @@ module _ (own : Own) (c : Neighbour) (e : own .energy ≤ 255) (t : own .nodetyp
   recorded-bytes : (k : Kind) (b : List ℕ) → Bytes b → Bytes (recordedBody own c k b)
   unfolding recordedBody
   recorded-bytes unknown b h = h
-  recorded-bytes lql b h = countedBody-bytes (c .lql) q b h
+  recorded-bytes lql b h = behind-bytes (countLevel (c .lql)) (countLevel-bytes (c .lql) q) b h
+  recorded-bytes colour b h = behind-bytes (countColour (c .colour)) (countColour-bytes (c .colour) k) b h
   recorded-bytes (node nsa) b h = h
   recorded-bytes (node ne) b h =
       both-bytes (clearEach b) _ (clearEach-bytes b h) (ownEnergy-bytes (own .nodetype) (isSet (own .flags / 4 % 2)) (own .energy) t e)
@@ -234,6 +262,7 @@ passes-bytes own cs lent out h e p =
     let data′ = data-bytes _ (x .objects) (take-bytes (x .candidate .size) (drop (x .candidate .start) lent) (drop-bytes (x .candidate .start) lent h)) (r .whole) in
     let l = fits own n (x .objects) (sym (leaf-is own cs lent out (p .unrefused) x) ∙ p .noLeaf) in
     let t = unrefused own cs lent out (p .unrefused) .knownType in
+    let (i, j, q, k) = in-range n (a .inRange) in
     rw (passed-is own cs lent out (p .unrefused) x (p .noLeaf))
     (more-bytes 2 (length (join (update own n (x .objects))) ∷ join (update own n (x .objects))) (omega arith)
-    (more-bytes (length (join (update own n (x .objects)))) (join (update own n (x .objects))) l (objects-bytes own n e t (in-range n (a .inRange) .2) (x .objects) data′ l)))
+    (more-bytes (length (join (update own n (x .objects)))) (join (update own n (x .objects))) l (objects-bytes own n e t q k (x .objects) data′ l)))

@@ -54,6 +54,12 @@ unfolding bitsOf
 bits-snoc [] v = omega arith
 bits-snoc (w ∷ vs) v = rw (bits-snoc vs v, pow-succ') (let z = mul-left-comm (unbarredBit v) 2 (2 ^ length vs) in omega arith)
 
+-- what fills up to sixteen stands behind the numbers already
+pub sixteen-same : (x : ℕ) (ns : List ℕ) → length ns < 16 → set (sixteen x ns) (length ns) x ≡ sixteen x ns
+sixteen-same x ns h =
+    let e : 16 - length ns ≡ suc (16 - (length ns + 1)) = omega arith in
+    rw e (set-append-seam ns x (replicate (16 - (length ns + 1)) x) x)
+
 -- what is filled up to sixteen, with one number more
 pub sixteen-snoc : (x : ℕ) (ns : List ℕ) (n : ℕ) → length ns < 16 → set (sixteen x ns) (length ns) n ≡ sixteen x (ns ++ (n ∷ []))
 sixteen-snoc x ns n h =

@@ -12,10 +12,10 @@ use Rattle.model.specs.declared.Quantity.the-variants.{Known, Unknown}
 use Rattle.model.specs.declared.Neighbour.{Neighbour}
 use Rattle.model.specs.declared.Summary.{Summary}
 use Rattle.model.specs.Number.{isSet, knownIf, satisfies, isUnknown, number}
-use Rattle.model.specs.Object.{Object, bitO, Kind, unknown, lql, node, scalar, throughput, latency, etx, kindOf, kind, known, Role, constraint, recorded, aggregated, role, isConstraint}
+use Rattle.model.specs.Object.{Object, bitO, Kind, unknown, lql, colour, node, scalar, throughput, latency, etx, kindOf, kind, known, Role, constraint, recorded, aggregated, role, isConstraint}
 use Rattle.model.specs.Table.{row}
 use Rattle.model.specs.Reading.{fixedShape, shaped}
-use Rattle.model.specs.Constraint.{isAggregator, isOverloaded, energyIn, linkValue, metNsa, metNe, met, mandatory}
+use Rattle.model.specs.Constraint.{isAggregator, isOverloaded, energyIn, linkValue, metNsa, metNe, metColour, met, mandatory}
 
 -- ---- a number that is known where its bit is 1
 
@@ -105,18 +105,23 @@ module _ (c : Neighbour) (s : Summary) (t : ℕ) (b : List ℕ) where
   unfolding met kindOf
   met-etx n e q = rw (e, q)
 
+  pub met-colour : t ≡ 8 → metColour (c .colour) (getD b 1 0) (getD b 2 0) ≡ met c s (kindOf t) b
+  unfolding met kindOf
+  met-colour e = rw e
+
 -- the types that no test names
-pub past-known : (t : ℕ) → (t ≡ 1 → ⊥) → (t ≡ 2 → ⊥) → (t ≡ 3 → ⊥) → (t ≡ 4 → ⊥) → (t ≡ 5 → ⊥) → (t ≡ 6 → ⊥) → (t ≡ 7 → ⊥) → known (kindOf t) ≡ false
+pub past-known : (t : ℕ) → (t ≡ 1 → ⊥) → (t ≡ 2 → ⊥) → (t ≡ 3 → ⊥) → (t ≡ 4 → ⊥) → (t ≡ 5 → ⊥) → (t ≡ 6 → ⊥) → (t ≡ 7 → ⊥) → (t ≡ 8 → ⊥) → known (kindOf t) ≡ false
 unfolding kindOf
-past-known zero a b c d e f g = refl
-past-known (suc zero) a b c d e f g = absurd (a refl)
-past-known (suc (suc zero)) a b c d e f g = absurd (b refl)
-past-known (suc (suc (suc zero))) a b c d e f g = absurd (c refl)
-past-known (suc (suc (suc (suc zero)))) a b c d e f g = absurd (d refl)
-past-known (suc (suc (suc (suc (suc zero))))) a b c d e f g = absurd (e refl)
-past-known (suc (suc (suc (suc (suc (suc zero)))))) a b c d e f g = absurd (f refl)
-past-known (suc (suc (suc (suc (suc (suc (suc zero))))))) a b c d e f g = absurd (g refl)
-past-known (suc (suc (suc (suc (suc (suc (suc (suc t)))))))) a b c d e f g = refl
+past-known zero a b c d e f g h = refl
+past-known (suc zero) a b c d e f g h = absurd (a refl)
+past-known (suc (suc zero)) a b c d e f g h = absurd (b refl)
+past-known (suc (suc (suc zero))) a b c d e f g h = absurd (c refl)
+past-known (suc (suc (suc (suc zero)))) a b c d e f g h = absurd (d refl)
+past-known (suc (suc (suc (suc (suc zero))))) a b c d e f g h = absurd (e refl)
+past-known (suc (suc (suc (suc (suc (suc zero)))))) a b c d e f g h = absurd (f refl)
+past-known (suc (suc (suc (suc (suc (suc (suc zero))))))) a b c d e f g h = absurd (g refl)
+past-known (suc (suc (suc (suc (suc (suc (suc (suc zero)))))))) a b c d e f g h = absurd (h refl)
+past-known (suc (suc (suc (suc (suc (suc (suc (suc (suc t))))))))) a b c d e f g h = refl
 
 -- no constraint of unknown type is met
 pub met-unknown : (c : Neighbour) (s : Summary) (t : ℕ) (b : List ℕ) → known (kindOf t) ≡ false → false ≡ met c s (kindOf t) b
@@ -126,6 +131,7 @@ met-unknown c s t b e = go (kindOf t) e
     go : (k : Kind) → known k ≡ false → false ≡ met c s k b
     go unknown e = refl
     go lql e = absurd (true≢false e)
+    go colour e = absurd (true≢false e)
     go (node n) e = absurd (true≢false e)
     go (scalar x) e = absurd (true≢false e)
 

@@ -1,4 +1,4 @@
--- Recorded LQL: the link's level is counted among the sub-objects.
+-- Recorded LQL and colours: the link's value is counted among the sub-objects.
 use mathlib.Core.Path.{_≡_, refl, sym, ap, _∙_}
 use Prim.Native.Nat.{ℕ, zero, suc, _+_, _-_, _*_, _/_, _%_, _≤_}
 use native.Mathlib.Omega.{arith}
@@ -9,14 +9,16 @@ use mathlib.Core.Option.{some, Option·none-ne-some}
 use lib.ListN.{length, getElem?}
 use lib.Dec.{leb, ltb, eqb}
 use borrow.Author.Tests.{eq-eqb, eqb-true, ltb-true, ltb-false, leb-true}
-use Rattle.model.specs.Object.{lql, kindOf, kind}
-use Rattle.model.specs.Table.{row}
+use Rattle.model.specs.Object.{lql, colour, kindOf, kind}
+use Rattle.model.specs.Table.{Row, row}
 use Rattle.model.specs.Reading.{recordedShape}
-use Rattle.model.specs.Update.{countLevel, countedBody, recordedBody, updateObject}
-use Rattle.model.specs.Counters.{Counter, counter, levels, Gains, Opens, Counts, CountsLevel, RecordsWhole}
+use Rattle.model.specs.Constraint.{colourIn}
+use Rattle.model.specs.Update.{countLevel, countedBody, countColour, colouredBody, recordedBody, updateObject}
+use Rattle.model.specs.Counters.{Counter, counter, levels, colours, Gains, Opens, Counts, CountsLevel, CountsColour, RecordsWhole}
 use Rattle.model.proofs.BoolLaws.{both}
 use Rattle.model.proofs.ReadingLaws.{reading-objects}
 use Rattle.model.proofs.TabledLaws.{at-tabled}
+use Rattle.model.proofs.ShapeLaws.{colours-even}
 
 -- ---- among sub-objects
 
@@ -111,9 +113,55 @@ pub counts-level : CountsLevel
 unfolding kindOf updateObject recordedBody
 counts-level own c o t r h = let k : kind o ≡ lql = rw t in rw (k, r) (counted-body (c .lql) (o .body) h)
 
+-- ---- bytes of colours
+
+colours-counted : (v : ℕ) (t : List ℕ) → length t % 2 ≡ 0 → colours (countColour v t) ≡ countIn 63 v (colours t)
+colours-counted v [] h =
+    let a : v / 4 * 4 + (v % 4 * 64 + 1) / 64 ≡ v = omega arith in
+    let b : (v % 4 * 64 + 1) % 64 ≡ 1 = omega arith in
+    rw (a, b)
+colours-counted v (x ∷ []) h = absurd (omega arith)
+colours-counted v (x ∷ y ∷ t) h = go (eqb (colourIn x y) v && ltb (y % 64) 63) refl (colours-counted v t (omega arith))
+  where
+    go : (b : Bool) → eqb (colourIn x y) v && ltb (y % 64) 63 ≡ b → colours (countColour v t) ≡ countIn 63 v (colours t)
+        → colours (cond b (x ∷ (y + 1) ∷ t) (x ∷ y ∷ countColour v t)) ≡ cond b (counter v (y % 64 + 1) ∷ colours t) (counter (colourIn x y) (y % 64) ∷ countIn 63 v (colours t))
+    go true e ih =
+        let (p, q) = both (eqb (colourIn x y) v) (ltb (y % 64) 63) e in
+        let w = eqb-true (colourIn x y) v p in
+        let u = ltb-true (y % 64) 63 q in
+        let a : x * 4 + (y + 1) / 64 ≡ v = omega arith in
+        let d : (y + 1) % 64 ≡ y % 64 + 1 = omega arith in
+        rw (a, d)
+    go false e ih = rw ih
+
+coloured-body : (v : ℕ) (b : List ℕ) → length b % 2 ≡ 1 → Counts 63 v colours b (colouredBody v b) × (length (colouredBody v b) % 2 ≡ 1)
+coloured-body v [] h = absurd (omega arith)
+coloured-body v (x ∷ t) h =
+    let e = colours-even v t (omega arith) .0 in
+    (record { reserved = refl; counted = rw (colours-counted v t (omega arith)) (counted-in 63 v (colours t)) }, omega (arith, e))
+
+pub counts-colour : CountsColour
+unfolding kindOf updateObject recordedBody
+counts-colour own c o t r h = let k : kind o ≡ colour = rw t in rw (k, r) (coloured-body (c .colour) (o .body) h)
+
+-- ---- in a well-formed container
+
+-- the bytes of a body that is as tabled
+series-of : (s : Row) (b : List ℕ) → recordedShape s b ≡ true → (s .lead + s .size ≤ length b) × ((length b - s .lead) % s .size ≡ 0)
+series-of s b e =
+    let (p, q) = both (leb (s .lead + s .size) (length b)) (eqb ((length b - s .lead) % s .size) 0) e in
+    (leb-true (s .lead + s .size) (length b) p, eqb-true ((length b - s .lead) % s .size) 0 q)
+
 pub records-whole : RecordsWhole
 unfolding kindOf
-records-whole bs os i o w e r t =
-    let k : kind o ≡ lql = rw t in
-    let shape : recordedShape (row lql) (o .body) ≡ true = rw (r, k) at (at-tabled os i o (reading-objects bs os w .noBar) e (rw k)) in
-    leb-true 2 (length (o .body)) (both (leb 2 (length (o .body))) (eqb ((length (o .body) - 1) % 1) 0) shape .0)
+records-whole bs os i o w e r = (
+  λ t.
+      let k : kind o ≡ lql = rw t in
+      let shape : recordedShape (row lql) (o .body) ≡ true = rw (r, k) at (at-tabled os i o (reading-objects bs os w .noBar) e (rw k)) in
+      series-of (row lql) (o .body) shape .0,
+  λ t.
+      let k : kind o ≡ colour = rw t in
+      let shape : recordedShape (row colour) (o .body) ≡ true = rw (r, k) at (at-tabled os i o (reading-objects bs os w .noBar) e (rw k)) in
+      let (p, q) = series-of (row colour) (o .body) shape in
+      (p, omega (arith, p, q)),
+)

@@ -10,7 +10,7 @@ use Rattle.model.specs.declared.Quantity.the-variants.{Known, Unknown}
 use Rattle.model.specs.declared.Summary.{Summary}
 use Rattle.model.specs.declared.Neighbour.{Neighbour}
 use Rattle.model.specs.Number.{number, anyOf, _when_, firstCase, firstOf}
-use Rattle.model.specs.Object.{Object, bitC, standings, Kind, unknown, lql, node, scalar, nsa, ne, hp, Scalar, throughput, latency, etx, typeOf, known, kind, Role, constraint, recorded, aggregated, role}
+use Rattle.model.specs.Object.{Object, bitC, standings, Kind, unknown, lql, colour, node, scalar, nsa, ne, hp, Scalar, throughput, latency, etx, typeOf, known, kind, Role, constraint, recorded, aggregated, role}
 use Rattle.model.specs.Table.{row}
 use Rattle.model.specs.Reading.{tlvsUpTo, tlvsFit, fixedShape, shaped, sameUse, objectBar}
 use Rattle.model.specs.Constraint.{fromFirst, countsHops, addsUp, pathValue, summary, met, mandatory, unknownMandatory, constraintBar}
@@ -71,6 +71,7 @@ tlvs-cut (x ∷ y ∷ t) e = refl
 fixedShape-cut : (k : Kind) (b : List ℕ) → fixedShape (row k) b ≡ true → fixedShape (row k) (cond (row k .tlvs) (take 2 b) b) ≡ true
 fixedShape-cut unknown b e = e
 fixedShape-cut lql b e = e
+fixedShape-cut colour b e = e
 fixedShape-cut (node nsa) b e = tlvs-cut b e
 fixedShape-cut (node ne) b e = tlvs-cut b e
 fixedShape-cut (node hp) b e = tlvs-cut b e
@@ -128,6 +129,7 @@ met-cut : (c : Neighbour) (s : Summary) (r : Role) (k : Kind) (b : List ℕ) →
 unfolding met
 met-cut c s r unknown b = refl
 met-cut c s r lql b = rw cutBody-byte1
+met-cut c s r colour b = rw cutBody-whole
 met-cut c s r (node nsa) b = rw cutBody-byte1
 met-cut c s r (node ne) b = rw (cutBody-byte0, cutBody-byte1)
 met-cut c s r (node hp) b = rw cutBody-byte1
@@ -142,6 +144,7 @@ constraintBar-cut c s o = rw (← tlv-types (o .type), met-cut)
 pub unknown-kind : (k : Kind) → known k ≡ false → k ≡ unknown
 unknown-kind unknown e = refl
 unknown-kind lql e = cc
+unknown-kind colour e = cc
 unknown-kind (node n) e = cc
 unknown-kind (scalar s) e = cc
 

@@ -131,7 +131,7 @@ unfolding kindOf linkValue
 beyond-types c b = by-type _ none none none none
     (rw (← satisfies-known (λ v. ltb 4294967295 (number b + v)) (c .flags / 32 % 2) (c .throughput), or-false (isSet (c .flags / 32 % 2) && ltb 4294967295 (number b + c .throughput))))
     (rw (← satisfies-known (λ v. ltb 4294967295 (number b + v)) (c .flags / 16 % 2) (c .latency)))
-    none none (λ t p. rw (p .kind, p .four, p .five) none)
+    none none none (λ t p. rw (p .kind, p .four, p .five) none)
   where
     none : false ≡ eqb (length b) 4 && false
     none = sym (and-false (eqb (length b) 4))

@@ -38,5 +38,6 @@ pub mod Boundaries
 pub mod ByteLaws
 pub mod TabledLaws
 pub mod ConstraintLaws
+pub mod ColourLaws
 pub mod RankLaws
 pub mod PathLaws

@@ -8,7 +8,7 @@ use lib.Dec.{eqb}
 use lib.ListN.{drop}
 use Rattle.model.specs.declared.Own.{Own}
 use Rattle.model.specs.declared.Neighbour.{Neighbour}
-use Rattle.model.specs.Object.{Object, kindOf, throughput, latency, etx, known, isRecorded, object, fieldA, Kind, unknown, lql, node, scalar, kind, Role, constraint, recorded, aggregated, roleBits, roleOf, role}
+use Rattle.model.specs.Object.{Object, kindOf, throughput, latency, etx, known, isRecorded, object, fieldA, Kind, unknown, lql, colour, node, scalar, kind, Role, constraint, recorded, aggregated, roleBits, roleOf, role}
 use Rattle.model.specs.Number.{isUnknown}
 use Rattle.model.specs.Constraint.{linkValue}
 use Rattle.model.specs.Table.{row}
@@ -55,7 +55,8 @@ adds-types c (suc (suc (suc (suc zero)))) = sym (or-nothing (isUnknown (linkValu
 adds-types c (suc (suc (suc (suc (suc zero))))) = sym (or-false (isUnknown (linkValue c latency)))
 adds-types c (suc (suc (suc (suc (suc (suc zero)))))) = refl
 adds-types c (suc (suc (suc (suc (suc (suc (suc zero))))))) = refl
-adds-types c (suc (suc (suc (suc (suc (suc (suc (suc t)))))))) = refl
+adds-types c (suc (suc (suc (suc (suc (suc (suc (suc zero)))))))) = refl
+adds-types c (suc (suc (suc (suc (suc (suc (suc (suc (suc t))))))))) = refl
 
 header : (own : Own) (c : Neighbour) (o : Object) → HeaderNext o (updateObject own c o) (isRecorded (role o) && addsNothing c (kind o))
 unfolding updateObject roleOf
@@ -79,6 +80,7 @@ constraintBody-tlvs : (k : Kind) (b : List ℕ) → row k .tlvs ≡ true → dro
 unfolding constraintBody
 constraintBody-tlvs unknown b e = cc
 constraintBody-tlvs lql b e = cc
+constraintBody-tlvs colour b e = cc
 constraintBody-tlvs (node n) b e = drop-onTwo (clear0 n) (clear1 n) b
 constraintBody-tlvs (scalar s) b e = refl
 
@@ -86,6 +88,7 @@ aggregatedBody-tlvs : (k : Kind) (a v : ℕ) (b : List ℕ) → row k .tlvs ≡ 
 unfolding aggregatedBody
 aggregatedBody-tlvs unknown a v b e = cc
 aggregatedBody-tlvs lql a v b e = cc
+aggregatedBody-tlvs colour a v b e = cc
 aggregatedBody-tlvs (node n) a v b e = drop-onTwo (clear0 n) (combine1 n a v) b
 aggregatedBody-tlvs (scalar s) a v b e = let z = scalar-tlvs s in cc
 

@@ -124,7 +124,7 @@ node-base (suc (suc (suc zero))) h l = refl
 node-base (suc (suc (suc (suc t)))) h l = absurd (omega arith)
 
 node-known : (t : ℕ) → 1 ≤ t → t ≤ 3 → known (kindOf t) ≡ true
-node-known t h l = known-types t ∙ rw (le-leb 1 t h, le-leb t 7 (omega arith))
+node-known t h l = known-types t ∙ rw (le-leb 1 t h, le-leb t 8 (omega arith))
 
 -- a known value is the number behind its bit
 within : (b x v most : ℕ) → x ≤ most → knownIf b x ≡ Known v → v ≤ most

@@ -12,11 +12,11 @@ use Rattle.model.specs.declared.Quantity.the-variants.{Known, Unknown}
 use Rattle.model.specs.declared.Own.{Own}
 use Rattle.model.specs.declared.Neighbour.{Neighbour}
 use Rattle.model.specs.Number.{anyOf, bigEndian, firstOf}
-use Rattle.model.specs.Object.{Object, bitC, fieldA, standings, Kind, unknown, lql, node, scalar, nsa, ne, hp, throughput, latency, etx, known, kind, Role, constraint, recorded, aggregated, roleBits, roleOf, role}
+use Rattle.model.specs.Object.{Object, bitC, fieldA, standings, Kind, unknown, lql, colour, node, scalar, nsa, ne, hp, throughput, latency, etx, known, kind, Role, constraint, recorded, aggregated, roleBits, roleOf, role}
 use Rattle.model.specs.Table.{row}
 use Rattle.model.specs.Reading.{tlvsFit, shaped, sameUse, objectBar}
-use Rattle.model.specs.Constraint.{energyIn, linkValue}
-use Rattle.model.specs.Update.{localValue, valueOr0, combine1, onTwo, clear0, clear1, aggregatedBody, constraintBody, subObject, clearEach, ownEnergy, countLevel, countedBody, recordedBody, addsNothing, nextBody, nextFlags, updateObject, update}
+use Rattle.model.specs.Constraint.{energyIn, linkValue, colourIn}
+use Rattle.model.specs.Update.{localValue, valueOr0, combine1, onTwo, clear0, clear1, aggregatedBody, constraintBody, subObject, clearEach, ownEnergy, countLevel, countedBody, clearColour, countColour, colouredBody, recordedBody, addsNothing, nextBody, nextFlags, updateObject, update}
 use Rattle.model.proofs.BoolLaws.{both}
 use Rattle.model.proofs.NumberLaws.{first-zero}
 use Rattle.model.proofs.RoundTrip.{length-bigEndian}
@@ -93,6 +93,31 @@ counted-shaped v (x ∷ t) e =
     let h = some-level v t in
     rw (le-leb 2 (suc (length (countLevel v t))) (omega arith), eq-eqb ((suc (length (countLevel v t)) - 1) % 1) 0 (omega arith))
 
+-- recorded colour: a byte, then sub-objects of two bytes, as many as before or one more
+pub length-clearColour : (b : List ℕ) → length (clearColour b) ≡ length b
+length-clearColour [] = refl
+length-clearColour (x ∷ []) = refl
+length-clearColour (x ∷ y ∷ []) = refl
+length-clearColour (x ∷ y ∷ z ∷ t) = refl
+
+pub colours-even : (v : ℕ) (t : List ℕ) → length t % 2 ≡ 0 → (length (countColour v t) % 2 ≡ 0) × (2 ≤ length (countColour v t))
+colours-even v [] e = (refl, omega arith)
+colours-even v (x ∷ []) e = absurd (omega arith)
+colours-even v (x ∷ y ∷ t) e = go (eqb (colourIn x y) v && ltb (y % 64) 63) (colours-even v t (omega arith))
+  where
+    go : (b : Bool) → (length (countColour v t) % 2 ≡ 0) × (2 ≤ length (countColour v t))
+        → (length (cond b (x ∷ (y + 1) ∷ t) (x ∷ y ∷ countColour v t)) % 2 ≡ 0) × (2 ≤ length (cond b (x ∷ (y + 1) ∷ t) (x ∷ y ∷ countColour v t)))
+    go true ih = (e, omega arith)
+    go false (p, q) = (omega arith, omega arith)
+
+coloured-shaped : (v : ℕ) (b : List ℕ) → leb 3 (length b) && eqb ((length b - 1) % 2) 0 ≡ true
+    → leb 3 (length (colouredBody v b)) && eqb ((length (colouredBody v b) - 1) % 2) 0 ≡ true
+coloured-shaped v [] e = e
+coloured-shaped v (x ∷ t) e =
+    let h = eqb-true ((suc (length t) - 1) % 2) 0 (both (leb 3 (suc (length t))) (eqb ((suc (length t) - 1) % 2) 0) e .1) in
+    let (p, q) = colours-even v t (omega arith) in
+    rw (le-leb 3 (suc (length (countColour v t))) (omega arith), eq-eqb ((suc (length (countColour v t)) - 1) % 2) 0 (omega arith))
+
 -- NE with this node's sub-object
 energy-shaped : (t : ℕ) (q : Quantity) (b : List ℕ) → leb 2 (length b) && eqb ((length b - 0) % 2) 0 ≡ true
     → leb 2 (length (clearEach b ++ ownEnergy t q)) && eqb ((length (clearEach b ++ ownEnergy t q) - 0) % 2) 0 ≡ true
@@ -104,6 +129,7 @@ constraint-shaped : (k : Kind) (b : List ℕ) → shaped constraint (row k) b �
 unfolding constraintBody
 constraint-shaped unknown b e = e
 constraint-shaped lql b e = rw (length-onTwo (λ x. 0) (λ y. y) b) e
+constraint-shaped colour b e = rw (length-clearColour b) e
 constraint-shaped (node nsa) b e = onTwo-shaped (clear0 nsa) (clear1 nsa) b e
 constraint-shaped (node ne) b e = onTwo-shaped (clear0 ne) (clear1 ne) b e
 constraint-shaped (node hp) b e = onTwo-shaped (clear0 hp) (clear1 hp) b e
@@ -113,6 +139,7 @@ aggregated-shaped : (k : Kind) (a v : ℕ) (b : List ℕ) → shaped aggregated 
 unfolding aggregatedBody
 aggregated-shaped unknown a v b e = e
 aggregated-shaped lql a v b e = e
+aggregated-shaped colour a v b e = e
 aggregated-shaped (node nsa) a v b e = onTwo-shaped (clear0 nsa) (combine1 nsa a v) b e
 aggregated-shaped (node ne) a v b e = onTwo-shaped (clear0 ne) (combine1 ne a v) b e
 aggregated-shaped (node hp) a v b e = onTwo-shaped (clear0 hp) (combine1 hp a v) b e
@@ -124,6 +151,7 @@ recorded-shaped : (own : Own) (c : Neighbour) (k : Kind) (b : List ℕ) → shap
 unfolding recordedBody
 recorded-shaped own c unknown b e = e
 recorded-shaped own c lql b e = counted-shaped (c .lql) b e
+recorded-shaped own c colour b e = coloured-shaped (c .colour) b e
 recorded-shaped own c (node nsa) b e = e
 recorded-shaped own c (node ne) b e = energy-shaped (own .nodetype) (energyIn (own .flags) (own .energy)) b e
 recorded-shaped own c (node hp) b e = e

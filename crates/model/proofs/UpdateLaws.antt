@@ -9,7 +9,7 @@ use borrow.Author.Tests.{le-ltb}
 use Rattle.model.specs.declared.Own.{Own}
 use Rattle.model.specs.declared.Neighbour.{Neighbour}
 use Rattle.model.specs.Number.{firstOf}
-use Rattle.model.specs.Object.{Object, fieldA, join, container, Kind, unknown, lql, node, scalar, Node, nsa, ne, hp, Scalar, throughput, latency, etx, known, kind, Role, constraint, recorded, aggregated, roleBits, roleOf, role}
+use Rattle.model.specs.Object.{Object, fieldA, join, container, Kind, unknown, lql, colour, node, scalar, Node, nsa, ne, hp, Scalar, throughput, latency, etx, known, kind, Role, constraint, recorded, aggregated, roleBits, roleOf, role}
 use Rattle.model.specs.Table.{row}
 use Rattle.model.specs.Update.{localValue, valueOr0, onTwo, clear0, clear1, combine1, aggregatedBody, constraintBody, addsNothing, nextBody, nextFlags, nextMode, updateObject, update, noEnergy, isBeyond, objectLeaf, tooLong, leafAnswer}
 use Rattle.model.specs.Cut.{mayHaveTlvs, cutBody, cutObject, keepIf, cut, cutContainer}
@@ -53,6 +53,7 @@ constraintBody-cut : (k : Kind) (b : List ℕ) → cond (row k .tlvs) (take 2 (c
 unfolding constraintBody
 constraintBody-cut unknown b = refl
 constraintBody-cut lql b = refl
+constraintBody-cut colour b = refl
 constraintBody-cut (node n) b = rw (node-tlvs n) (take-onTwo (clear0 n) (clear1 n) b)
 constraintBody-cut (scalar s) b = refl
 
@@ -61,6 +62,7 @@ aggregatedBody-cut : (k : Kind) (a v : ℕ) (b : List ℕ)
 unfolding aggregatedBody
 aggregatedBody-cut unknown a v b = refl
 aggregatedBody-cut lql a v b = refl
+aggregatedBody-cut colour a v b = refl
 aggregatedBody-cut (node n) a v b = rw (node-tlvs n) (take-onTwo (clear0 n) (combine1 n a v) b)
 aggregatedBody-cut (scalar s) a v b = rw (scalar-tlvs s)
 
@@ -93,6 +95,7 @@ nextHop-cut own c os = cutContainer-container (update own c os) ∙ ap container
 noEnergy-cut : (r : Role) (k : Kind) (t : Bool) (b : List ℕ) → noEnergy k (cutBody r t b) ≡ noEnergy k b
 noEnergy-cut r unknown t b = refl
 noEnergy-cut r lql t b = refl
+noEnergy-cut r colour t b = refl
 noEnergy-cut r (node nsa) t b = refl
 noEnergy-cut r (node ne) t b = rw cutBody-byte0
 noEnergy-cut r (node hp) t b = refl
@@ -101,6 +104,7 @@ noEnergy-cut r (scalar s) t b = refl
 isBeyond-cut : (c : Neighbour) (r : Role) (k : Kind) (b : List ℕ) → isBeyond c k (cutBody r (row k .tlvs) b) ≡ isBeyond c k b
 isBeyond-cut c r unknown b = refl
 isBeyond-cut c r lql b = refl
+isBeyond-cut c r colour b = refl
 isBeyond-cut c r (node n) b = refl
 isBeyond-cut c r (scalar s) b = rw (scalar-tlvs s, cutBody-whole r b)
 

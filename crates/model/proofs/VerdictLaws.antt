@@ -97,16 +97,17 @@ unfolding rankTooHigh
 finite own c h = leb-false infinite (resulting own c) (neither (eqb (c .rank .0) infinite) (leb infinite (resulting own c)) h .1)
 
 -- what bar 11 leaves
-pub in-range : (c : Neighbour) → outOfRange c ≡ false → (1 ≤ c .sp) × (1 ≤ c .rf) × (c .lql ≤ 7)
+pub in-range : (c : Neighbour) → outOfRange c ≡ false → (1 ≤ c .sp) × (1 ≤ c .rf) × (c .lql ≤ 7) × (c .colour ≤ 1023)
 unfolding outOfRange
 in-range c h =
-    let (a, x) = neither _ (ltb 3 (c .nodetype)) h in
+    let (g, k) = neither _ (ltb 1023 (c .colour)) h in
+    let (a, x) = neither _ (ltb 3 (c .nodetype)) g in
     let (b, q) = neither _ (ltb 7 (c .lql)) a in
     let (d, x) = neither _ (ltb 5 (c .sr)) b in
     let (e, x) = neither _ (ltb 4 (c .rf)) d in
     let (f, r) = neither _ (ltb (c .rf) 1) e in
     let (s, x) = neither (ltb (c .sp) 1) (ltb 9 (c .sp)) f in
-    (ltb-false (c .sp) 1 s, ltb-false (c .rf) 1 r, ltb-false 7 (c .lql) q)
+    (ltb-false (c .sp) 1 s, ltb-false (c .rf) 1 r, ltb-false 7 (c .lql) q, ltb-false 1023 (c .colour) k)
 
 product : (a b : ℕ) → 1 ≤ a → 1 ≤ b → 1 ≤ a * b
 product a b h k = mul-le-mul {n₂ = a} {m₂ = b} h k
@@ -114,7 +115,7 @@ product a b h k = mul-le-mul {n₂ = a} {m₂ = b} h k
 pub rises : (own : Own) (c : Neighbour) → outOfRange c ≡ false → 1 ≤ own .minhop → c .rank .0 < resulting own c
 unfolding resulting
 rises own c h m =
-    let (s, r, q) = in-range c h in
+    let (s, r, q, k) = in-range c h in
     let u : 1 ≤ c .rf * c .sp = product (c .rf) (c .sp) r s in
     let p : 1 ≤ (c .rf * c .sp + c .sr) * own .minhop = product (c .rf * c .sp + c .sr) (own .minhop) (omega arith) m in
     omega arith

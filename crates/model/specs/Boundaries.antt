@@ -13,6 +13,7 @@ pub mod Repeats
 pub mod Listings
 pub mod Cuts
 pub mod Bits
+pub mod Colours
 use Rattle.model.specs.Listing.{listing}
 use Rattle.model.specs.Cut.{cutContainer}
 use Rattle.model.specs.Samples.{Holds, verdictOf, passedBy, outcomeOf}
@@ -30,6 +31,7 @@ use Repeats.{repeats, barGiven}
 use Listings.{lines}
 use Cuts.{cuts}
 use Bits.{verdicts, refusals as currentBit, containers as ownBits}
+use Colours.{numbers as colourNumbers, lengths as colourLengths, uses as colourUses, links as colourLinks, bits as colourBits, bitVerdicts as colourBitVerdicts, leaves as colourLeaves, records as colourRecords, constraints as colourConstraints, lines as colourLines, cuts as colourCuts}
 
 -- the tables, each computed
 pub record Boundaries : Type 0 where
@@ -78,3 +80,14 @@ pub record Boundaries : Type 0 where
   pub bitVerdicts : Holds verdictOf verdicts
   pub bitRefusals : Holds sizedRefusal currentBit
   pub bitContainers : Holds passedBy ownBits
+  -- link colours
+  pub bar11Colours : Holds verdictOf colourNumbers
+  pub colourBodies : Holds shapeVerdicts colourLengths
+  pub colourObjects : Holds verdictOf colourUses
+  pub bar19Colours : Holds verdictOf colourLinks
+  pub eachColourBit : Holds colourBitVerdicts colourBits
+  pub leafColours : Holds leafGiven colourLeaves
+  pub recordedColours : Holds passedBy colourRecords
+  pub constraintColours : Holds passedBy colourConstraints
+  pub colourTexts : Holds listing colourLines
+  pub cutColours : Holds cutContainer colourCuts

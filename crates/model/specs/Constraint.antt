@@ -1,6 +1,6 @@
 -- Bars 18 and 19: the constraints that a candidate does not meet.
-use Prim.Native.Nat.{ℕ, _+_, _/_, _%_}
-use mathlib.Core.Bool.{Bool, false, cond, not, _&&_, _||_}
+use Prim.Native.Nat.{ℕ, zero, suc, _+_, _*_, _/_, _%_}
+use mathlib.Core.Bool.{Bool, true, false, cond, not, _&&_, _||_}
 use mathlib.Core.List.{List, [], _∷_}
 use lib.ListN.{getD}
 use lib.Dec.{leb, ltb, eqb}
@@ -9,7 +9,7 @@ use Rattle.model.specs.declared.Quantity.the-variants.{Known, Unknown}
 use Rattle.model.specs.declared.Summary.{Summary}
 use Rattle.model.specs.declared.Neighbour.{Neighbour}
 use Rattle.model.specs.Number.{isSet, knownIf, satisfies, isUnknown, number, Case, _when_, firstCase}
-use Rattle.model.specs.Object.{Object, bitO, fieldA, Kind, unknown, lql, node, scalar, nsa, ne, hp, Scalar, throughput, latency, etx, typeOf, known, kind, isConstraint, isAggregated, isHp, role}
+use Rattle.model.specs.Object.{Object, bitO, fieldA, Kind, unknown, lql, colour, node, scalar, nsa, ne, hp, Scalar, throughput, latency, etx, typeOf, known, kind, isConstraint, isAggregated, isHp, role}
 
 -- ---- what is known of a neighbour
 
@@ -77,6 +77,19 @@ abbrev pub metNe : (nodetype : ℕ) → Quantity → (flags limit : ℕ) → Boo
 metNe t energy f limit =
     cond (isSet (f / 8 % 2)) (metIncluded (eqb t (f / 2 % 4)) (isSet (f % 2)) energy limit) (metExcluded (eqb t (f / 2 % 4)) (isSet (f % 2)) energy limit)
 
+-- the colour of a sub-object: ten bits, the upper eight of them in its first byte
+abbrev pub colourIn : (x y : ℕ) → ℕ
+colourIn x y = x * 4 + y / 64
+
+-- every bit of a colour that is set is set in another, among so many bits
+unfoldable pub hasAll : (bits asked link : ℕ) → Bool
+hasAll zero a l = true
+hasAll (suc k) a l = leb (a % 2) (l % 2) && hasAll k (a / 2) (l / 2)
+
+-- colour, I=1: the link has the constraint's colour; I=0: it has not
+abbrev pub metColour : (link x y : ℕ) → Bool
+metColour l x y = cond (isSet (y % 2)) (hasAll 10 (colourIn x y) l) (not (hasAll 10 (colourIn x y) l))
+
 -- a constraint of a kind, by its body
 unfoldable pub met : Neighbour → Summary → Kind → List ℕ → Bool
 met c s unknown b = false
@@ -86,6 +99,7 @@ met c s (node hp) b = satisfies (λ v. ltb v (getD b 1 0)) (s .hops)
 met c s (scalar throughput) b = satisfies (λ v. leb (number b) v) (linkValue c throughput)
 met c s (scalar latency) b = satisfies (λ v. leb (s .latency + v) (number b)) (linkValue c latency)
 met c s (scalar etx) b = satisfies (λ v. leb (s .etx + v) (number b)) (linkValue c etx)
+met c s colour b = metColour (c .colour) (getD b 1 0) (getD b 2 0)
 met c s lql b = leb 1 (c .lql) && leb (c .lql) (getD b 1 0 / 32)
 
 -- ---- bars 18 and 19

@@ -1,6 +1,6 @@
--- Demand 2, recorded LQL: the link's level is counted among the sub-objects, and no counter wraps.
+-- Demand 2, recorded LQL and colours: the link's value is counted among the sub-objects, the same way in both, and no counter wraps.
 use mathlib.Core.Path.{_≡_}
-use Prim.Native.Nat.{ℕ, _+_, _/_, _%_, _≤_, _<_}
+use Prim.Native.Nat.{ℕ, _+_, _*_, _/_, _%_, _≤_, _<_}
 use mathlib.Core.List.{List, [], _∷_, _++_}
 use mathlib.Core.Logic.{_⊎_}
 use mathlib.Core.Option.{some}
@@ -24,6 +24,12 @@ counter v n = record { value = v; count = n }
 abbrev pub levels : List ℕ → List Counter
 levels [] = []
 levels (x ∷ t) = counter (x / 32) (x % 32) ∷ levels t
+
+-- the sub-objects of colour: the colour in 10 bits, the counter in 6
+abbrev pub colours : List ℕ → List Counter
+colours [] = []
+colours (x ∷ []) = []
+colours (x ∷ y ∷ t) = counter (x * 4 + y / 64) (y % 64) ∷ colours t
 
 -- the first sub-object of this value whose counter is below `full` gains one, and all others are as they were
 pub record Gains (full value : ℕ) (received sent : List Counter) : Type 0 where
@@ -49,7 +55,12 @@ abbrev pub CountsLevel : Type 0
 CountsLevel = (own : Own) (c : Neighbour) (o : Object) → o .type ≡ 6 → role o ≡ recorded → 2 ≤ length (o .body)
     → Counts 31 (c .lql) levels (o .body) (updateObject own c o .body)
 
--- in a well-formed container a recorded LQL has two bytes or more, as that asks
+-- recorded colours (type 8): the link's colour is counted, up to 63, among whole sub-objects
+abbrev pub CountsColour : Type 0
+CountsColour = (own : Own) (c : Neighbour) (o : Object) → o .type ≡ 8 → role o ≡ recorded → length (o .body) % 2 ≡ 1
+    → Counts 63 (c .colour) colours (o .body) (updateObject own c o .body) × (length (updateObject own c o .body) % 2 ≡ 1)
+
+-- in a well-formed container a recorded LQL has two bytes or more, and recorded colours an odd number of three or more, as those ask
 abbrev pub RecordsWhole : Type 0
-RecordsWhole = (bs : List ℕ) (os : List Object) (i : ℕ) (o : Object) → reading bs ≡ wellFormed os → getElem? os i ≡ some o → role o ≡ recorded → o .type ≡ 6
-    → 2 ≤ length (o .body)
+RecordsWhole = (bs : List ℕ) (os : List Object) (i : ℕ) (o : Object) → reading bs ≡ wellFormed os → getElem? os i ≡ some o → role o ≡ recorded
+    → (o .type ≡ 6 → 2 ≤ length (o .body)) × (o .type ≡ 8 → (3 ≤ length (o .body)) × (length (o .body) % 2 ≡ 1))

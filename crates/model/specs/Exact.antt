@@ -178,18 +178,18 @@ pub record ReadingExact (bs : List ℕ) (given : Reading) : Type 0 where
 abbrev pub ReadingsExact : Type 0
 ReadingsExact = (bs : List ℕ) → ReadingExact bs (reading bs)
 
--- known types are 1 to 7
+-- known types are 1 to 8
 abbrev pub KnownTypes : Type 0
-KnownTypes = (type : ℕ) → known (kindOf type) ≡ leb 1 type && leb type 7
+KnownTypes = (type : ℕ) → known (kindOf type) ≡ leb 1 type && leb type 8
 
 -- TLVs can stand in objects of types 1 to 3, by the table as by number
 abbrev pub TlvTypes : Type 0
 TlvTypes = (type : ℕ) → row (kindOf type) .tlvs ≡ mayHaveTlvs type
 
--- bar 17 by numbers: a metric of type 1 (NSA) or 3 (HP) with R=1, or of type 6 (LQL) with R=0
+-- bar 17 by numbers: a metric of type 1 (NSA) or 3 (HP) with R=1, or of type 6 (LQL) or 8 (colour) with R=0
 abbrev pub MisusedTypes : Type 0
 MisusedTypes = (es : List Object) (o : Object) → misused (record { earlier = es; object = o })
-    ≡ eqb (bitC o) 0 && ((eqb (o .type) 1 || eqb (o .type) 3) && eqb (bitR o) 1 || eqb (o .type) 6 && eqb (bitR o) 0)
+    ≡ eqb (bitC o) 0 && ((eqb (o .type) 1 || eqb (o .type) 3) && eqb (bitR o) 1 || (eqb (o .type) 6 || eqb (o .type) 8) && eqb (bitR o) 0)
 
 -- ---- bar 19 by numbers: the limits of a path
 

@@ -16,6 +16,7 @@ pub mod Untouched
 pub mod RoundTrip
 pub mod ReadBack
 pub mod Counters
+pub mod Colours
 pub mod Local
 pub mod Unknown
 pub mod Samples

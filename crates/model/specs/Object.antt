@@ -100,13 +100,13 @@ pub data Scalar : Type 0 where
 
 -- the type of an object, as far as it is known
 pub data Kind : Type 0 where
-  unknown lql : Kind
+  unknown lql colour : Kind
   node : Node → Kind
   scalar : Scalar → Kind
 
--- the kinds by type: 1 to 7 are known, 0 and 8 to 255 are not
+-- the kinds by type: 1 to 8 are known, 0 and 9 to 255 are not
 abbrev pub kinds : List Kind
-kinds = unknown ∷ node nsa ∷ node ne ∷ node hp ∷ scalar throughput ∷ scalar latency ∷ lql ∷ scalar etx ∷ []
+kinds = unknown ∷ node nsa ∷ node ne ∷ node hp ∷ scalar throughput ∷ scalar latency ∷ lql ∷ scalar etx ∷ colour ∷ []
 
 -- the kind of a type
 unfoldable pub kindOf : (type : ℕ) → Kind
@@ -126,6 +126,7 @@ kind o = kindOf (o .type)
 abbrev pub known : Kind → Bool
 known unknown = false
 known lql = true
+known colour = true
 known (node n) = true
 known (scalar s) = true
 
@@ -169,6 +170,7 @@ isAggregated aggregated = true
 abbrev pub isHp : Kind → Bool
 isHp unknown = false
 isHp lql = false
+isHp colour = false
 isHp (node nsa) = false
 isHp (node ne) = false
 isHp (node hp) = true

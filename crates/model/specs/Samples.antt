@@ -54,7 +54,7 @@ ownCurrent p = ownWith 256 0 0 0 0x10 0 p
 -- a neighbour's numbers, the formula's first
 abbrev pub neighbourWith : (rank rf sp sr nodetype flags energy lql etx latency throughput : ℕ) → Neighbour
 neighbourWith r rf sp sr t f e q x l p =
-    record { rank = record { 0 = r }; sp = sp; rf = rf; sr = sr; nodetype = t; flags = f; energy = e; lql = q; etx = x; latency = l; throughput = p }
+    record { rank = record { 0 = r }; sp = sp; rf = rf; sr = sr; nodetype = t; flags = f; energy = e; lql = q; etx = x; latency = l; throughput = p; colour = 0 }
 
 -- the formula's numbers
 abbrev pub ranked : (rank rf sp sr : ℕ) → Neighbour
@@ -87,6 +87,10 @@ throughputOf v = linkOf 0x20 0 0 0 v
 -- a link of this LQL
 abbrev pub lqlOf : (value : ℕ) → Neighbour
 lqlOf v = linkOf 0x00 v 0 0 0
+
+-- a link of this colour
+abbrev pub colourOf : (value : ℕ) → Neighbour
+colourOf v = record { rank = record { 0 = 256 }; sp = 1; rf = 1; sr = 0; nodetype = 0; flags = 0x00; energy = 0; lql = 0; etx = 0; latency = 0; throughput = 0; colour = v }
 
 -- ---- bytes
 

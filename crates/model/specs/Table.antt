@@ -4,7 +4,7 @@ use mathlib.Core.Bool.{Bool, true, false}
 use mathlib.Core.List.{List, [], _∷_}
 use lib.Dec.{eqb}
 use Rattle.model.specs.Number.{anyOf}
-use Rattle.model.specs.Object.{Kind, unknown, lql, node, scalar, nsa, ne, hp, throughput, latency, etx}
+use Rattle.model.specs.Object.{Kind, unknown, lql, colour, node, scalar, nsa, ne, hp, throughput, latency, etx}
 
 -- a row of the table
 pub record Row : Type 0 where
@@ -31,6 +31,7 @@ row (node hp) = rowWith 2 true false 0 0 (0 ∷ [])
 row (scalar throughput) = rowWith 4 false true 0 4 (0 ∷ 1 ∷ 2 ∷ [])
 row (scalar latency) = rowWith 4 false true 0 4 (0 ∷ 1 ∷ 2 ∷ [])
 row lql = rowWith 2 false true 1 1 []
+row colour = rowWith 3 false true 1 2 []
 row (scalar etx) = rowWith 2 false true 0 2 (0 ∷ 1 ∷ 2 ∷ [])
 
 -- an A that the type's row allows

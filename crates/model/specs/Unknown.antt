@@ -71,9 +71,9 @@ pub record KeepsPlaces (cs : List Candidate) (lent : List ℕ) (r : Result) : Ty
 abbrev pub barredAt : Result → (position : ℕ) → Bool
 barredAt r i = not (eqb (getD (r .answer .verdicts) i 0) 10)
 
--- document 01's word: an unknown mandatory constraint has an unknown type (not 1 to 7), C=1 and O=0
+-- document 01's word: an unknown mandatory constraint has an unknown type (not 1 to 8), C=1 and O=0
 abbrev pub isUnknownMandatory : Object → Bool
-isUnknownMandatory o = not (leb 1 (o .type) && leb (o .type) 7) && eqb (bitC o) 1 && eqb (bitO o) 0
+isUnknownMandatory o = not (leb 1 (o .type) && leb (o .type) 8) && eqb (bitC o) 1 && eqb (bitO o) 0
 
 -- a candidate's container holds an unknown mandatory constraint
 abbrev pub holdsUnknown : (lent : List ℕ) → Candidate → Bool

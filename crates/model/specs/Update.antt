@@ -9,9 +9,9 @@ use Rattle.model.specs.declared.Quantity.the-variants.{Known, Unknown}
 use Rattle.model.specs.declared.Own.{Own}
 use Rattle.model.specs.declared.Neighbour.{Neighbour}
 use Rattle.model.specs.Number.{isSet, satisfies, isUnknown, number, bigEndian, Case, _when_, firstCase, first, firstOf}
-use Rattle.model.specs.Object.{Object, object, fieldA, join, Kind, unknown, lql, node, scalar, Node, nsa, ne, hp, Scalar, throughput, latency, etx, known, kind, Role, constraint, recorded, aggregated, role, isAggregated, isConstraint, isHp}
+use Rattle.model.specs.Object.{Object, object, fieldA, join, Kind, unknown, lql, colour, node, scalar, Node, nsa, ne, hp, Scalar, throughput, latency, etx, known, kind, Role, constraint, recorded, aggregated, role, isAggregated, isConstraint, isHp}
 use Rattle.model.specs.Table.{row, allowed}
-use Rattle.model.specs.Constraint.{energyIn, linkValue}
+use Rattle.model.specs.Constraint.{energyIn, linkValue, colourIn}
 
 -- ---- local values
 
@@ -23,6 +23,7 @@ localValue own c (node ne) = energyIn (own .flags) (own .energy)
 localValue own c (node hp) = Known 1
 localValue own c (scalar s) = linkValue c s
 localValue own c lql = Known (c .lql)
+localValue own c colour = Known (c .colour)
 
 -- a known value; an unknown one is asked for nowhere, since leaf answer 33 comes first
 abbrev pub valueOr0 : Quantity → ℕ
@@ -72,6 +73,7 @@ mostOf s = 256 ^ widthOf s - 1
 unfoldable pub aggregatedBody : Kind → (a v : ℕ) → List ℕ → List ℕ
 aggregatedBody unknown a v b = b
 aggregatedBody lql a v b = b
+aggregatedBody colour a v b = b
 aggregatedBody (node n) a v b = onTwo (clear0 n) (combine1 n a v) b
 aggregatedBody (scalar s) a v b = onField (widthOf s) (λ x. combine a (mostOf s) x v) b
 
@@ -83,9 +85,17 @@ clear1 nsa y = y % 4
 clear1 ne y = y
 clear1 hp y = y
 
+-- a colour's sub-object in a constraint, its reserved bits cleared
+abbrev pub clearColour : List ℕ → List ℕ
+clearColour [] = []
+clearColour (x ∷ []) = x ∷ []
+clearColour (x ∷ y ∷ []) = x ∷ y ∷ []
+clearColour (x ∷ y ∷ z ∷ t) = 0 ∷ y ∷ (z / 64 * 64 + z % 2) ∷ t
+
 -- the body kept but for the bits cleared
 unfoldable pub constraintBody : Kind → List ℕ → List ℕ
 constraintBody unknown b = b
+constraintBody colour b = clearColour b
 constraintBody lql b = onTwo (λ x. 0) (λ y. y) b
 constraintBody (node n) b = onTwo (clear0 n) (clear1 n) b
 constraintBody (scalar s) b = b
@@ -108,6 +118,11 @@ abbrev pub ownEnergy : (nodetype : ℕ) → Quantity → List ℕ
 ownEnergy t (Known e) = (t * 2 + 1) ∷ e ∷ []
 ownEnergy t Unknown = t * 2 ∷ 0 ∷ []
 
+-- a body with its reserved byte cleared, and the sub-objects behind it changed
+abbrev pub behindReserved : (List ℕ → List ℕ) → List ℕ → List ℕ
+behindReserved f [] = []
+behindReserved f (x ∷ t) = 0 ∷ f t
+
 -- LQL: the first sub-object with the link's Val and counter below 31 gains one, else Val with counter 1 is added at the end
 abbrev pub countLevel : (val : ℕ) → List ℕ → List ℕ
 countLevel v [] = (v * 32 + 1) ∷ []
@@ -115,13 +130,23 @@ countLevel v (x ∷ t) = cond (eqb (x / 32) v && ltb (x % 32) 31) ((x + 1) ∷ t
 
 -- the body of a recorded LQL: byte 0 cleared, the link's level counted
 abbrev pub countedBody : (val : ℕ) → List ℕ → List ℕ
-countedBody v [] = []
-countedBody v (x ∷ t) = 0 ∷ countLevel v t
+countedBody v b = behindReserved (countLevel v) b
+
+-- colours: the first sub-object with the link's colour and a counter below 63 gains one, else the colour with counter 1 is added at the end
+abbrev pub countColour : (colour : ℕ) → List ℕ → List ℕ
+countColour v [] = v / 4 ∷ (v % 4 * 64 + 1) ∷ []
+countColour v (x ∷ []) = x ∷ []
+countColour v (x ∷ y ∷ t) = cond (eqb (colourIn x y) v && ltb (y % 64) 63) (x ∷ (y + 1) ∷ t) (x ∷ y ∷ countColour v t)
+
+-- the body of a recorded colour: byte 0 cleared, the link's colour counted
+abbrev pub colouredBody : (colour : ℕ) → List ℕ → List ℕ
+colouredBody v b = behindReserved (countColour v) b
 
 -- the local value goes behind the last sub-object, for throughput before the first
 unfoldable pub recordedBody : Own → Neighbour → Kind → List ℕ → List ℕ
 recordedBody own c unknown b = b
 recordedBody own c lql b = countedBody (c .lql) b
+recordedBody own c colour b = colouredBody (c .colour) b
 recordedBody own c (node nsa) b = b
 recordedBody own c (node ne) b = clearEach b ++ ownEnergy (own .nodetype) (energyIn (own .flags) (own .energy))
 recordedBody own c (node hp) b = b
@@ -133,6 +158,7 @@ recordedBody own c (scalar etx) b = b ++ subObject 2 (linkValue c etx)
 abbrev pub addsNothing : Neighbour → Kind → Bool
 addsNothing c unknown = true
 addsNothing c lql = false
+addsNothing c colour = false
 addsNothing c (node n) = false
 addsNothing c (scalar s) = isUnknown (linkValue c s)
 
@@ -178,6 +204,7 @@ notAllowed o = isAggregated (role o) && not (allowed (kind o) (fieldA o))
 abbrev pub noEnergy : Kind → List ℕ → Bool
 noEnergy unknown b = false
 noEnergy lql b = false
+noEnergy colour b = false
 noEnergy (node nsa) b = false
 noEnergy (node ne) b = not (isSet (getD b 0 0 % 2))
 noEnergy (node hp) b = false
@@ -201,6 +228,7 @@ mustFit etx = false
 abbrev pub isBeyond : Neighbour → Kind → List ℕ → Bool
 isBeyond c unknown b = false
 isBeyond c lql b = false
+isBeyond c colour b = false
 isBeyond c (node n) b = false
 isBeyond c (scalar s) b = mustFit s && eqb (length b) (widthOf s) && satisfies (λ v. ltb (mostOf s) (number b + v)) (linkValue c s)
 

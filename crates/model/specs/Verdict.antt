@@ -14,9 +14,9 @@ use Rattle.model.specs.Reading.{noPlace, Reading, refused, wellFormed, r
 use Rattle.model.specs.Constraint.{summary, constraintBar}
 use Rattle.model.specs.Rank.{resulting, rankTooHigh, aboveLowest}
 
--- bar 11: Sp outside 1..9, Rf outside 1..4, Sr above 5, LQL above 7 or type above 3
+-- bar 11: Sp outside 1..9, Rf outside 1..4, Sr above 5, LQL above 7, type above 3 or colour above 1023
 unfoldable pub outOfRange : Neighbour → Bool
-outOfRange c = ltb (c .sp) 1 || ltb 9 (c .sp) || ltb (c .rf) 1 || ltb 4 (c .rf) || ltb 5 (c .sr) || ltb 7 (c .lql) || ltb 3 (c .nodetype)
+outOfRange c = ltb (c .sp) 1 || ltb 9 (c .sp) || ltb (c .rf) 1 || ltb 4 (c .rf) || ltb 5 (c .sr) || ltb 7 (c .lql) || ltb 3 (c .nodetype) || ltb 1023 (c .colour)
 
 -- a candidate's container in the lent run
 abbrev pub containerOf : (lent : List ℕ) → Candidate → List ℕ

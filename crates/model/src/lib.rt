@@ -49,6 +49,8 @@ pub struct Neighbour {
     pub latency: u32,
     // bytes per second
     pub throughput: u32,
+    // ten flag bits
+    pub colour: u16,
 }
 
 // A candidate: a neighbour, and where its container stands in the lent run.

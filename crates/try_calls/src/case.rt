@@ -18,8 +18,8 @@ const MOST: u64 = 18446744073709551615;
 // The limits of minhop, maxincrease, lowest, nodetype, flags, energy, current, room and count.
 const OWN: [u64; 9] = [SHORT, SHORT, SHORT, BYTE, BYTE, BYTE, MOST, 300, MOST];
 
-// The limits of rank, sp, rf, sr, nodetype, flags, energy, lql, etx, latency, throughput, start and size.
-const CANDIDATE: [u64; 13] = [
+// The limits of rank, sp, rf, sr, nodetype, flags, energy, lql, etx, latency, throughput, colour, start and size.
+const CANDIDATE: [u64; 14] = [
     SHORT,
     BYTE,
     BYTE,
@@ -31,6 +31,7 @@ const CANDIDATE: [u64; 13] = [
     SHORT,
     WORD,
     WORD,
+    SHORT,
     MOST,
     MOST,
 ];
@@ -63,7 +64,7 @@ fn own_of(row: [u64; 9]) -> Own {
     }
 }
 
-fn neighbour_of(row: [u64; 13]) -> Neighbour {
+fn neighbour_of(row: [u64; 14]) -> Neighbour {
     Neighbour {
         rank: Rank((row[0] % 65536) as u16),
         sp: (row[1] % 256) as u8,
@@ -76,14 +77,15 @@ fn neighbour_of(row: [u64; 13]) -> Neighbour {
         etx: (row[8] % 65536) as u16,
         latency: (row[9] % 4294967296) as u32,
         throughput: (row[10] % 4294967296) as u32,
+        colour: (row[11] % 65536) as u16,
     }
 }
 
-fn candidate_of(row: [u64; 13]) -> Candidate {
+fn candidate_of(row: [u64; 14]) -> Candidate {
     Candidate {
         neighbour: neighbour_of(row),
-        start: row[11] as usize,
-        size: row[12] as usize,
+        start: row[12] as usize,
+        size: row[13] as usize,
     }
 }
 
@@ -104,7 +106,7 @@ fn read_candidates(text: &[u8], from: usize, count: usize) -> Candidates
 {
     let n = shown(count);
     let limits = CANDIDATE;
-    let mut row = [0u64; 13];
+    let mut row = [0u64; 14];
     let mut list = [candidate_of(row); 16];
     let mut at = from;
     let mut i = 0;

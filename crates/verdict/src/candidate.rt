@@ -29,13 +29,22 @@ pub struct Barring {
 fn is_out_of_range(neighbour: Neighbour) -> bool
     ensures { λ r. ⌜ r ≡ outOfRange neighbour ⌝ }
 {
-    (neighbour.sp < 1)
-        | (9 < neighbour.sp)
-        | (neighbour.rf < 1)
-        | (4 < neighbour.rf)
-        | (5 < neighbour.sr)
-        | (7 < neighbour.lql)
-        | (3 < neighbour.nodetype)
+    if (neighbour.sp < 1) | (9 < neighbour.sp) {
+        return true;
+    }
+    if (neighbour.rf < 1) | (4 < neighbour.rf) {
+        return true;
+    }
+    if 5 < neighbour.sr {
+        return true;
+    }
+    if 7 < neighbour.lql {
+        return true;
+    }
+    if 3 < neighbour.nodetype {
+        return true;
+    }
+    1023 < neighbour.colour
 }
 
 // The first object of a well-formed container with bar 18 or 19.

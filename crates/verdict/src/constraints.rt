@@ -8,7 +8,7 @@ ghost use Rattle.model.specs.Number.{satisfies};
 ghost use Rattle.model.specs.Object.{kindOf, throughput, latency, etx};
 ghost use Rattle.model.specs.Table.{row};
 ghost use Rattle.model.specs.Reading.{fixedShape};
-ghost use Rattle.model.specs.Constraint.{isAggregator, isOverloaded, energyIn, linkValue, metNsa, metNe, met, mandatory};
+ghost use Rattle.model.specs.Constraint.{isAggregator, isOverloaded, energyIn, linkValue, metNsa, metNe, metColour, met, mandatory};
 ghost use Rattle.wire.specs.Step.{objectOf};
 ghost use Rattle.verdict.specs.Judged.{Tabled, barHolds};
 use model::Neighbour;
@@ -83,6 +83,19 @@ fn meets_lql(neighbour: Neighbour, asked: u8) -> bool
     (1 <= neighbour.lql) & (neighbour.lql <= asked / 32)
 }
 
+// Colour, I=1: every bit that is asked for is set in the link's colour; I=0: some is not.
+fn meets_colour(neighbour: Neighbour, high: u8, low: u8) -> bool
+    ensures { λ r. ⌜ r ≡ metColour (neighbour .colour) high low ⌝ }
+{
+    let colour = neighbour.colour as u32;
+    let asked = high as u32 * 4 + (low / 64) as u32;
+    let has = (asked | colour) == colour;
+    if low % 2 == 1 {
+        return has;
+    }
+    !has
+}
+
 // Whether a constraint is met whose body is as tabled; one of unknown type is not.
 fn is_met(neighbour: Neighbour, summary: Summary, mctype: u8, body: &[u8]) -> bool
     requires { ⌜ fixedShape (row (kindOf mctype)) (now body) ≡ true ⌝ }
@@ -108,6 +121,9 @@ fn is_met(neighbour: Neighbour, summary: Summary, mctype: u8, body: &[u8]) -> bo
     }
     if mctype == 7 {
         return meets_etx(neighbour, summary.etx, wire::number_2(body));
+    }
+    if mctype == 8 {
+        return meets_colour(neighbour, body[1], body[2]);
     }
     false
 }

@@ -1,4 +1,4 @@
--- Bodies by the columns of the row that code reads.
+-- Bodies by the row that code reads.
 use mathlib.Core.Path.{_≡_, refl, sym, subst}
 use Prim.Native.Nat.{ℕ, _+_, _-_, _%_, _≤_, _<_}
 use native.Mathlib.Nat.{mod-zero, mod-one}
@@ -9,7 +9,7 @@ use lib.ListN.{length, take, drop, length-drop, drop-of-length-le}
 use lib.Seq.{take-all}
 use lib.Dec.{leb, eqb}
 use borrow.Author.Tests.{le-leb, lt-leb, eq-eqb, ne-eqb}
-use Rattle.model.specs.Object.{Kind, unknown, lql, node, scalar, nsa, ne, hp, throughput, latency, etx, kindOf, Role, constraint, recorded, aggregated, roleOf, isRecorded}
+use Rattle.model.specs.Object.{Kind, unknown, lql, colour, node, scalar, nsa, ne, hp, throughput, latency, etx, kindOf, Role, constraint, recorded, aggregated, roleOf, isRecorded}
 use Rattle.model.specs.Table.{row}
 use Rattle.model.specs.Reading.{tlvsFit, fixedShape, recordedShape, shaped, cannotBe, isEmpty}
 use Rattle.model.proofs.TypeLaws.{beq-true, every-kind}
@@ -83,6 +83,7 @@ series-else w t b e =
     sizes (scalar throughput) n x y = absurd (x refl)
     sizes (scalar latency) n x y = absurd (x refl)
     sizes lql n x y = rw (mod-one n)
+    sizes colour n x y = absurd (y refl)
     sizes (scalar etx) n x y = absurd (y refl)
 
 -- ---- by the role of an object

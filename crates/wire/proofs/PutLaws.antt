@@ -1,12 +1,12 @@
--- Bytes that are put into an output: one run behind another, a byte before others, and a byte before that is stored last.
+-- Bytes that are put into an output: one run behind another, a byte before others or inside them, and a byte before that is stored last.
 use mathlib.Core.Path.{_≡_, refl, sym, ap, _∙_}
-use Prim.Native.Nat.{ℕ, suc, _+_, _<_}
+use Prim.Native.Nat.{ℕ, zero, suc, _+_, _<_}
 use native.Mathlib.Nat.{add-zero, add-suc, suc-add}
 use native.Mathlib.Numerals.{add-one}
 use native.Mathlib.Omega.{arith}
 use mathlib.Core.List.{List, [], _∷_, _++_}
-use lib.ListN.{length, set, length-append}
-use lib.Seq.{sets, length-sets, set-comm}
+use lib.ListN.{length, set, length-set, length-append}
+use lib.Seq.{sets, length-sets, set-set, set-comm}
 use Rattle.wire.specs.Put.{Put}
 
 -- two runs of stores, one behind the other, are one run
@@ -40,6 +40,20 @@ put-cons {l} {m} {t} {j} {n} i x e p = record {
 set-sets : (l : List ℕ) (i j : ℕ) (x : ℕ) (ys : List ℕ) → i < j → set (sets l j ys) i x ≡ sets (set l i x) j ys
 set-sets l i j x [] h = refl
 set-sets l i j x (y ∷ ys) h = set-sets (set l j y) i (suc j) x ys (omega arith) ∙ ap (λ m. sets m (suc j) ys) (set-comm l j i y x (λ e. omega arith))
+
+-- a store inside a run of stores
+set-inside : (l : List ℕ) (i : ℕ) (xs : List ℕ) (k y : ℕ) → k < length xs → set (sets l i xs) (i + k) y ≡ sets l i (set xs k y)
+set-inside l i [] k y h = absurd (omega arith)
+set-inside l i (x ∷ xs) zero y h =
+    rw (add-zero i) (set-sets (set l i x) i (suc i) y xs (omega arith) ∙ ap (λ m. sets m (suc i) xs) (set-set l i x y))
+set-inside l i (x ∷ xs) (suc k) y h = rw (add-suc i k, ← suc-add i k) (set-inside (set l i x) (suc i) xs k y (omega arith))
+
+-- a run, one byte of which is stored once more
+pub put-inside : {l m t : List ℕ} {i n : ℕ} (k y : ℕ) → k < length t → Put l i t n m → Put l i (set t k y) n (set m (i + k) y)
+put-inside {l} {m} {t} {i} {n} k y h p = record {
+  end = p .end ∙ ap (λ j. i + j) (sym (length-set t k y));
+  written = ap (λ j. set j (i + k) y) (p .written) ∙ set-inside l i t k y h;
+}
 
 -- a byte before others that is stored last
 pub put-before : {l m t : List ℕ} {j n : ℕ} (i x : ℕ) → i < j → Put l j t n m → Put (set l i x) j t n (set m i x)

@@ -1,51 +1,42 @@
 -- The rows of the table by type number.
 use mathlib.Core.Path.{_≡_, refl, sym, _∙_}
-use Prim.Native.Nat.{ℕ, zero, suc, _≤_, _<_, _^_}
+use Prim.Native.Nat.{ℕ, zero, suc, _/_, _%_, _≤_, _<_, _^_}
 use native.Mathlib.Nat.{div-eq-of-lt, pow-suc}
 use native.Mathlib.Omega.{arith}
 use mathlib.Core.Bool.{Bool, true, false, Bool·beq, _&&_, not}
-use mathlib.Core.List.{List, [], _∷_, map}
-use lib.ListN.{getD, List·getD-map, List·getD-eq-default}
-use lib.Dec.{eqb, ltb}
+use mathlib.Core.List.{List, [], _∷_}
+use lib.Dec.{eqb, leb, ltb}
 use lib.Pow.{pow-pos}
-use borrow.Author.Tests.{ltb-true, ltb-false, ne-eqb, not-true}
+use borrow.Author.Tests.{leb-true, ltb-true, ltb-false, ne-eqb, not-true}
 use Rattle.model.specs.Number.{anyOf}
-use Rattle.model.specs.Object.{Kind, unknown, kinds, kindOf}
+use Rattle.model.specs.Object.{Kind, kindOf, known}
 use Rattle.model.specs.Table.{row, allowed}
+use Rattle.model.specs.Cut.{mayHaveTlvs}
 use Rattle.model.proofs.BoolLaws.{both, neither}
 use Rattle.model.proofs.NumberLaws.{allBelow, below-all}
-use Rattle.model.proofs.TypeLaws.{beq-true, every-kind}
-use Rattle.wire.specs.Row.{hasBit, maskOf, rowIn, rowFor, MasksExact}
+use Rattle.model.proofs.TypeLaws.{beq-true, every-kind, by-type, known-types, tlv-types}
+use Rattle.wire.specs.declared.table.Row.{Row}
+use Rattle.wire.specs.Row.{hasBit, maskOf, rowFor, byteFor, MasksExact}
 
--- a type behind the table has the row of type 0
-pub row-past : (t : ℕ) → 8 ≤ t → rowFor 0 ≡ rowFor t
+-- a type between two numbers
+pub within : (t n : ℕ) → leb 1 t && leb t n ≡ true → (1 ≤ t) × (t ≤ n)
+within t n e = let (a, b) = both (leb 1 t) (leb t n) e in (leb-true 1 t a, leb-true t n b)
+
+-- a known type is 1 to 8
+pub known-within : (t : ℕ) → known (kindOf t) ≡ true → (1 ≤ t) × (t ≤ 8)
+known-within t k = within t 8 (sym (known-types t) ∙ k)
+
+-- the row that two bytes tell
+abbrev told : (tlvs : Bool) (fixed series : ℕ) → Row
+told t f s = record { base = f % 16; tlvs = t; records = eqb (s / 128) 1; lead = s / 16 % 8; size = s % 16; allows = f / 16 }
+
+-- the bytes of a type tell its row
+pub row-bytes : (t : ℕ) → told (mayHaveTlvs t) (byteFor 0x0372027474126262 t) (byteFor 0x9282918484008200 t) ≡ rowFor t
 unfolding rowFor kindOf
-row-past t h = rw (List·getD-eq-default kinds unknown h)
-
--- a column of the table, at a type
-pub column : {A : Type 0} (f : Kind → A) (t : ℕ) → getD (map f kinds) t (f unknown) ≡ f (kindOf t)
-unfolding kindOf
-column f t = List·getD-map f kinds t unknown
-
--- the columns, at a type, are its row
-pub row-columns : (t : ℕ) → record {
-  base = getD (map (λ k. rowIn k .base) kinds) t 0;
-  tlvs = getD (map (λ k. rowIn k .tlvs) kinds) t false;
-  records = getD (map (λ k. rowIn k .records) kinds) t false;
-  lead = getD (map (λ k. rowIn k .lead) kinds) t 0;
-  size = getD (map (λ k. rowIn k .size) kinds) t 0;
-  allows = getD (map (λ k. rowIn k .allows) kinds) t 0;
-} ≡ rowFor t
-unfolding rowFor
-row-columns t =
-    rw (
-      column (λ k. rowIn k .base) t,
-      column (λ k. rowIn k .tlvs) t,
-      column (λ k. rowIn k .records) t,
-      column (λ k. rowIn k .lead) t,
-      column (λ k. rowIn k .size) t,
-      column (λ k. rowIn k .allows) t,
-    )
+row-bytes t = rw (← tlv-types t) (by-type Tells refl refl refl refl refl refl refl refl refl (λ t p. rw (p .kind)) t)
+  where
+    Tells : ℕ → Type 0
+    Tells t = told (row (kindOf t) .tlvs) (byteFor 0x0372027474126262 t) (byteFor 0x9282918484008200 t) ≡ rowFor t
 
 -- ---- the masks
 
@@ -72,7 +63,7 @@ agreesAt k a = Bool·beq (hasBit (maskOf (row k .allows)) a) (allowed k a)
 abbrev agrees : Kind → Bool
 agrees k = allBelow 3 (agreesAt k) && (ltb (maskOf (row k .allows)) 8 && not (anyOf (λ a. ltb 2 a) (row k .allows)))
 
-all-agree : allBelow 8 (λ t. agrees (kindOf t)) ≡ true
+all-agree : allBelow 9 (λ t. agrees (kindOf t)) ≡ true
 unfolding kindOf hasBit
 all-agree = refl
 

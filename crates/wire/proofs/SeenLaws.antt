@@ -5,19 +5,18 @@ use native.Mathlib.Nat.{zero-div}
 use native.Mathlib.Omega.{arith}
 use mathlib.Core.Bool.{Bool, true, false, _&&_, _||_, or-false, or-assoc, true≢false}
 use mathlib.Core.List.{List, [], _∷_, _++_}
-use lib.Dec.{eqb, leb}
+use lib.Dec.{eqb}
 use lib.Bits.{bitOr}
-use borrow.Author.Tests.{eq-eqb, ne-eqb, eqb-true, eqb-false, leb-true}
+use borrow.Author.Tests.{eq-eqb, ne-eqb, eqb-true, eqb-false}
 use Rattle.model.specs.Number.{anyOf}
 use Rattle.model.specs.Object.{Object, bitC, kind, kindOf, known}
 use Rattle.model.specs.Reading.{sameUse, repeated, objectBar}
-use Rattle.model.proofs.BoolLaws.{both}
 use Rattle.model.proofs.ListLaws.{any-same}
-use Rattle.model.proofs.TypeLaws.{known-types}
 use Rattle.wire.specs.Row.{hasBit}
 use Rattle.wire.specs.Seen.{useIndex, hasUse, withUse, seenFrom, seenAfter, barBy, setsBit, BitsExact, SeenExact, BitsApart}
 use Rattle.wire.specs.SeenRows.{SeenRows}
 use Rattle.wire.proofs.BitLaws.{shift-one, bit-with}
+use Rattle.wire.proofs.RowLaws.{within, known-within}
 
 -- ---- the bits of two uses
 
@@ -29,13 +28,6 @@ use-eqb o e l m = go (eqb (e .type) (o .type)) (eqb (bitC e) (bitC o)) refl refl
     go true true p q = let x = eqb-true (e .type) (o .type) p in let y = eqb-true (bitC e) (bitC o) q in sym (eq-eqb (useIndex e) (useIndex o) (omega arith))
     go true false p q = let y = eqb-false (bitC e) (bitC o) q in let x = eqb-true (e .type) (o .type) p in sym (ne-eqb (useIndex e) (useIndex o) (λ z. y (omega arith)))
     go false t p q = let x = eqb-false (e .type) (o .type) p in sym (ne-eqb (useIndex e) (useIndex o) (λ z. x (omega arith)))
-
--- a type between two numbers
-within : (t n : ℕ) → leb 1 t && leb t n ≡ true → (1 ≤ t) × (t ≤ n)
-within t n e = let (a, b) = both (leb 1 t) (leb t n) e in (leb-true 1 t a, leb-true t n b)
-
-pub known-within : (t : ℕ) → known (kindOf t) ≡ true → (1 ≤ t) × (t ≤ 7)
-known-within t k = within t 7 (sym (known-types t) ∙ k)
 
 pub bits-apart : BitsApart
 bits-apart o l = let (a, b) = within (o .type) 8 l in (omega arith, λ e m. use-eqb o e a (within (e .type) 8 m .0))
@@ -107,8 +99,8 @@ unfolding hasBit
 reads-use n k o h e = rw (h, e)
 
 -- a bit that is set
-pub sets-use : (n k : ℕ) (o : Object) → known (kind o) ≡ true → k < 16 → k ≡ useIndex o → bitOr n ((1 * 2 ^ k) % 65536) ≡ withUse n o
-sets-use n k o h l e = rw (h, ← e, shift-one 16 k l)
+pub sets-use : (n k : ℕ) (o : Object) → known (kind o) ≡ true → k < 16 → k ≡ useIndex o → bitOr n ((1 * 2 ^ k) % 4294967296) ≡ withUse n o
+sets-use n k o h l e = rw (h, ← e, shift-one 32 k (omega arith))
 
 -- ---- computed
 

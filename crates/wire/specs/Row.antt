@@ -1,10 +1,10 @@
 -- The model's row of a type, as code has it.
 use mathlib.Core.Path.{_≡_}
-use Prim.Native.Nat.{ℕ, _+_, _/_, _%_, _^_}
-use mathlib.Core.Bool.{Bool}
+use Prim.Native.Nat.{ℕ, _+_, _-_, _*_, _/_, _%_, _^_}
+use mathlib.Core.Bool.{Bool, cond}
 use mathlib.Core.List.{List, [], _∷_}
 use Rattle.model.specs.Number.{isSet}
-use Rattle.model.specs.Object.{Kind, kindOf}
+use Rattle.model.specs.Object.{Kind, kindOf, known}
 use Rattle.model.specs.Table.{row, allowed}
 use Rattle.wire.specs.declared.table.Row.{Row}
 
@@ -24,6 +24,10 @@ rowIn k = record { base = row k .base; tlvs = row k .tlvs; records = row k .reco
 -- the row of a type
 unfoldable pub rowFor : (type : ℕ) → Row
 rowFor t = rowIn (kindOf t)
+
+-- the byte of a type in a number that has one for each known type, that of type 1 the lowest; 0 for a type that is not known
+abbrev pub byteFor : (table type : ℕ) → ℕ
+byteFor n t = cond (known (kindOf t)) (n / 2 ^ ((t - 1) * 8) % 256) 0
 
 -- bit a of a type's mask is 1 exactly where the model's table allows A = a
 abbrev pub MasksExact : Type 0

@@ -13,7 +13,7 @@ use crate::seen;
 use crate::table;
 
 // 16 for an object whose use was seen, else another number.
-fn repeat_or(seen: u16, header: Header, number: u8) -> u8
+fn repeat_or(seen: u32, header: Header, number: u8) -> u8
     ensures { λ r. ⌜ r ≡ cond (hasUse seen (objectOf header [])) 16 number ⌝ }
 {
     if seen::has(seen, header) {
@@ -23,7 +23,7 @@ fn repeat_or(seen: u16, header: Header, number: u8) -> u8
 }
 
 // The lower of 15 and 16 at a constraint, or at an aggregated metric that its type can be; 0 for none.
-pub(crate) fn fixed_bar(header: Header, body: &[u8], seen: u16) -> u8
+pub(crate) fn fixed_bar(header: Header, body: &[u8], seen: u32) -> u8
     requires { ⌜ known (kindOf (header .mctype)) ≡ true ⌝ }
     requires { ⌜ isRecorded (roleOf (header .flags) (header .mode)) ≡ false ⌝ }
     requires { ⌜ cannotBe (roleOf (header .flags) (header .mode)) (row (kindOf (header .mctype))) ≡ false ⌝ }
@@ -36,7 +36,7 @@ pub(crate) fn fixed_bar(header: Header, body: &[u8], seen: u16) -> u8
 }
 
 // The lowest of 15, 16 and 17 at an aggregated metric; 0 for none.
-pub(crate) fn aggregated_bar(header: Header, body: &[u8], seen: u16) -> u8
+pub(crate) fn aggregated_bar(header: Header, body: &[u8], seen: u32) -> u8
     requires { ⌜ known (kindOf (header .mctype)) ≡ true ⌝ }
     requires { ⌜ roleOf (header .flags) (header .mode) ≡ aggregated ⌝ }
     ensures { λ r. ⌜ r ≡ barBy (hasUse seen (objectOf header [])) (objectOf header (now (body .entry))) ⌝ }
@@ -49,7 +49,7 @@ pub(crate) fn aggregated_bar(header: Header, body: &[u8], seen: u16) -> u8
 }
 
 // The lowest of 15, 16 and 17 at a recorded metric; 0 for none.
-pub(crate) fn recorded_bar(header: Header, body: &[u8], seen: u16) -> u8
+pub(crate) fn recorded_bar(header: Header, body: &[u8], seen: u32) -> u8
     requires { ⌜ known (kindOf (header .mctype)) ≡ true ⌝ }
     requires { ⌜ roleOf (header .flags) (header .mode) ≡ recorded ⌝ }
     ensures { λ r. ⌜ r ≡ barBy (hasUse seen (objectOf header [])) (objectOf header (now (body .entry))) ⌝ }

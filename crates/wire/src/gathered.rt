@@ -25,7 +25,7 @@ use crate::table;
 pub struct Gathered {
     pub number: u8,
     pub place: u16,
-    pub seen: u16,
+    pub seen: u32,
     pub hops: u16,
     pub latency: u32,
     pub etx: u16,

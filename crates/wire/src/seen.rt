@@ -18,18 +18,18 @@ fn use_index(header: Header) -> usize
 }
 
 // Whether the use of an object was seen; that of an unknown type never was.
-pub(crate) fn has(seen: u16, header: Header) -> bool
+pub(crate) fn has(seen: u32, header: Header) -> bool
     ensures { λ r. ⌜ r ≡ hasUse seen (objectOf header []) ⌝ }
 {
     if table::is_known(header.mctype) {
         let k = use_index(header);
-        return (seen as u32 >> k) % 2 == 1;
+        return (seen as u64 >> k) % 2 == 1;
     }
     false
 }
 
 // The uses seen, with that of one object more; an unknown type leaves them as they are.
-pub(crate) fn with(seen: u16, header: Header) -> u16
+pub(crate) fn with(seen: u32, header: Header) -> u32
     ensures { λ r. ⌜ r ≡ withUse seen (objectOf header []) ⌝ }
 {
     if !table::is_known(header.mctype) {

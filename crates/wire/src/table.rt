@@ -1,8 +1,7 @@
-// Document 01's table: a row for each type, kept in columns.
+// Document 01's table: a row for each type.
 ghost use mathlib.Core.Path.{_≡_};
-ghost use Prim.Native.Nat.{_<_};
 ghost use Rattle.model.specs.Object.{known, kindOf};
-ghost use Rattle.wire.specs.Row.{rowFor};
+ghost use Rattle.wire.specs.Row.{byteFor, rowFor};
 
 // A row. A constraint or an aggregated metric has base bytes, and TLVs behind them where tlvs; a metric can be recorded where
 // records, as lead bytes and sub-objects of size bytes; bit a of allows is 1 where it can be aggregated by A = a.
@@ -15,47 +14,42 @@ pub struct Row {
     pub allows: u8,
 }
 
-// The columns, by type: 0 (not known), NSA, NE, HP, throughput, latency, LQL, ETX.
-const BASE: [u8; 8] = [0, 2, 2, 2, 4, 4, 2, 2];
+// The table but for tlvs, a byte for each known type: from the left colour (8), ETX, LQL, latency, throughput, HP, NE and NSA (1). An
+// array would be put on the stack each time it is asked for. First allows and base, a digit each.
+const FIXED: u64 = 0x0372027474126262;
 
-const TLVS: [bool; 8] = [false, true, true, true, false, false, false, false];
-
-const RECORDS: [bool; 8] = [false, false, true, false, true, true, true, true];
-
-const LEAD: [u8; 8] = [0, 0, 0, 0, 0, 0, 1, 0];
-
-const SIZE: [u8; 8] = [0, 0, 2, 0, 4, 4, 1, 2];
-
-const ALLOWS: [u8; 8] = [0, 6, 6, 1, 7, 7, 0, 7];
+// And lead and size, a digit each, with 0x80 where records.
+const SERIES: u64 = 0x9282918484008200;
 
 // Whether a type is known.
 pub fn is_known(mctype: u8) -> bool
     ensures { λ r. ⌜ r ≡ known (kindOf mctype) ⌝ }
 {
-    (1 <= mctype) & (mctype <= 7)
+    (1 <= mctype) & (mctype <= 8)
 }
 
-// The index of a type in the columns: types that are not known have the one of type 0.
-fn index(mctype: u8) -> usize
-    ensures { λ r. ⌜ (r < 8) × (rowFor r ≡ rowFor mctype) ⌝ }
+// The byte of a type; 0 for one that is not known.
+fn byte_of(table: u64, mctype: u8) -> u8
+    ensures { λ r. ⌜ r ≡ byteFor table mctype ⌝ }
 {
-    if mctype < 8 {
-        return mctype as usize;
+    if !is_known(mctype) {
+        return 0;
     }
-    0
+    ((table >> ((mctype as u32 - 1) * 8)) % 256) as u8
 }
 
 // The row of a type; one that is not known has an empty row.
 pub fn row_of(mctype: u8) -> Row
     ensures { λ r. ⌜ r ≡ rowFor mctype ⌝ }
 {
-    let k = index(mctype);
+    let fixed = byte_of(FIXED, mctype);
+    let series = byte_of(SERIES, mctype);
     Row {
-        base: BASE[k],
-        tlvs: TLVS[k],
-        records: RECORDS[k],
-        lead: LEAD[k],
-        size: SIZE[k],
-        allows: ALLOWS[k],
+        base: fixed % 16,
+        tlvs: (1 <= mctype) & (mctype <= 3),
+        records: series / 128 == 1,
+        lead: series / 16 % 8,
+        size: series % 16,
+        allows: fixed / 16,
     }
 }

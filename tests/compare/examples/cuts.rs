@@ -10,8 +10,8 @@ const CUTS: &[(&str, &str)] = &[
         "02 11 07 00 00 02 01 C9 02 02 00 02 08 00 C8 00 80 01 AA",
         "02 0C 07 00 00 02 01 C9 02 02 00 02 08 00",
     ),
-    // types 0 and 8 to 255, header and body
-    ("02 0D 00 00 80 00 08 02 00 01 AA FF 03 80 00", "02 00"),
+    // types 0 and 9 to 255, header and body
+    ("02 0D 00 00 80 00 09 02 00 01 AA FF 03 80 00", "02 00"),
     // NSA, NE and HP, as constraint or aggregated
     ("02 08 01 FF FF 04 AA BB 07 00", "02 06 01 FF FF 02 AA BB"),
     (
@@ -30,6 +30,14 @@ const CUTS: &[(&str, &str)] = &[
     ),
     ("02 07 06 00 80 03 FF 41 42", "02 07 06 00 80 03 FF 41 42"),
     (
+        "02 0B 09 00 80 00 08 FA 80 03 FF FF FF",
+        "02 07 08 FA 80 03 FF FF FF",
+    ),
+    (
+        "02 09 08 00 80 05 FF 80 C1 07 00",
+        "02 09 08 00 80 05 FF 80 C1 07 00",
+    ),
+    (
         "02 08 05 F8 00 04 01 02 03 04",
         "02 08 05 F8 00 04 01 02 03 04",
     ),
@@ -38,9 +46,10 @@ const CUTS: &[(&str, &str)] = &[
 /// An object, and whether it is an unknown mandatory constraint.
 const MANDATORY: &[(&str, bool)] = &[
     ("02 04 00 02 00 00", true),
-    ("02 04 08 FA 80 00", true),
-    ("02 04 08 03 00 00", false),
-    ("02 04 08 00 00 00", false),
+    ("02 04 09 FA 80 00", true),
+    ("02 04 09 03 00 00", false),
+    ("02 04 09 00 00 00", false),
+    ("02 07 08 02 00 03 00 80 C1", false),
     ("02 06 07 02 00 02 00 00", false),
 ];
 
@@ -56,6 +65,22 @@ const PLACES: &[(&str, &str, bool)] = &[
     ("02 05 C8 03 80 01 AA", "02 05 C8 03 00 01 AA", true),
     ("02 05 C8 03 80 01 AA", "02 05 C8 03 80 01 AA", false),
     ("02 05 C8 03 00 01 AA", "02 05 C8 07 00 01 AA", false),
+    // type 9 is unknown, and type 8 may change
+    (
+        "02 07 09 00 80 03 00 80 C1",
+        "02 07 09 04 80 03 00 80 C1",
+        true,
+    ),
+    (
+        "02 07 09 00 80 03 00 80 C1",
+        "02 07 09 04 80 03 00 80 C2",
+        false,
+    ),
+    (
+        "02 07 08 00 80 03 00 80 C1",
+        "02 07 08 00 80 03 00 80 C2",
+        true,
+    ),
     // another index, one object less, bytes left over
     (
         "02 0A C8 03 00 00 07 00 80 02 00 00",

@@ -6,6 +6,7 @@ use crate::reference::data::{Neighbour, THROUGHPUT_KNOWN};
 const LEAVES: &[(&str, u8)] = &[
     ("02 05 C8 00 00 01 AA", 31),
     ("02 05 C8 00 30 01 AA", 31),
+    ("02 07 09 00 00 03 00 80 C1", 31),
     ("02 06 07 00 30 02 00 80", 32),
     ("02 06 07 00 70 02 00 80", 32),
     ("02 06 03 00 10 02 00 FF", 32),
@@ -29,6 +30,12 @@ pub fn hold(trial: &mut Trial) {
     }
     let full = format!("02 FE 07 00 80 FA {}", "00 ".repeat(250));
     leaf(trial, NEIGHBOUR, &full, 35);
+    // a colour takes two bytes more: 255 and 254 have no room for it
+    let colours = format!("02 FF 08 00 80 FB 00 {}", "80 FF ".repeat(125));
+    leaf(trial, NEIGHBOUR, &colours, 35);
+    let colours = "80 FF ".repeat(121);
+    let colours = format!("02 FE 08 00 80 F3 00 {colours}08 02 00 03 00 80 C1");
+    leaf(trial, NEIGHBOUR, &colours, 35);
     let zeros = "00 ".repeat(242);
     let both = format!("02 FE 07 00 80 F2 {zeros}05 00 00 04 FF FF FF FF");
     leaf(trial, NEIGHBOUR, &both, 36);

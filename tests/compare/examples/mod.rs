@@ -3,6 +3,7 @@
 
 mod bars;
 mod choices;
+mod colours;
 mod cuts;
 mod hops;
 mod leaves;
@@ -26,7 +27,8 @@ const OWN: Own = Own {
     current: 0,
 };
 
-/// A mains-powered neighbour, one unit away, whose energy and throughput are unknown.
+/// A mains-powered neighbour, one unit away, whose energy and throughput are unknown. Its colour
+/// has the bits 512, 2 and 1: in a body 80 C0.
 const NEIGHBOUR: Neighbour = Neighbour {
     rank: 256,
     sp: 1,
@@ -39,6 +41,7 @@ const NEIGHBOUR: Neighbour = Neighbour {
     etx: 128,
     latency: 1000,
     throughput: 0,
+    colour: 515,
 };
 
 /// Either implementation, and what of it does not hold, a line each.
@@ -71,6 +74,7 @@ pub fn failed() -> Vec<String> {
         ranks::hold(trial);
         refusals::hold(trial);
         bars::hold(trial);
+        colours::hold(trial);
         leaves::hold(trial);
         hops::hold(trial);
         choices::hold(trial);

@@ -1,4 +1,4 @@
-//! The bodies of known objects, with values at or beside those that decide.
+//! The bodies of constraints and aggregated metrics, with values at or beside those that decide.
 
 use super::object::{Body, Maker};
 
@@ -35,7 +35,8 @@ impl Maker<'_> {
                     smooth: link.lql > 0,
                 }
             }
-            _ => self.sum_limit(7, link.etx().map(u32::from), 65535),
+            7 => self.sum_limit(7, link.etx().map(u32::from), 65535),
+            _ => self.colour_asked(),
         }
     }
 
@@ -195,43 +196,6 @@ impl Maker<'_> {
             0 => Some(self.turning(local, most)),
             1 => Some(self.random.within(0, (most - local) as usize) as u32),
             _ => None,
-        }
-    }
-
-    /// The body of a recorded metric.
-    pub fn record(&mut self, kind: u8, room: usize) -> Body {
-        let unit = unit(kind);
-        let most = (room.saturating_sub(5) / unit).max(1);
-        let few = self.random.within(1, 3);
-        let subs = match self.random.below(12) {
-            0 => most,
-            _ => few,
-        };
-        if kind == 6 {
-            return self.levels(subs);
-        }
-        Body {
-            bytes: self.bytes(unit * subs),
-            smooth: true,
-        }
-    }
-
-    /// A recorded LQL body of so many sub-objects, often with the link's Val and a counter at an
-    /// edge.
-    pub fn levels(&mut self, subs: usize) -> Body {
-        let mut bytes = vec![self.random.byte()];
-        for _ in 0..subs {
-            let plain = self.random.byte();
-            let val = match self.random.below(2) {
-                0 => self.link.lql & 7,
-                _ => plain >> 5,
-            };
-            let counter = self.random.pick(&[0, 1, 29, 30, 31, 31, 31, plain & 31]);
-            bytes.push(val << 5 | counter);
-        }
-        Body {
-            bytes,
-            smooth: true,
         }
     }
 }

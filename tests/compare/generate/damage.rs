@@ -85,7 +85,7 @@ fn current(random: &mut Random, call: &mut Call) {
 /// A neighbour's number out of range, or at the edge of it.
 fn number(random: &mut Random, candidate: &mut Candidate) {
     let neighbour = &mut candidate.neighbour;
-    match random.below(8) {
+    match random.below(9) {
         0 => neighbour.sp = random.pick(&[0, 1, 9, 10, 255]),
         1 => neighbour.rf = random.pick(&[0, 1, 4, 5, 255]),
         2 => neighbour.sr = random.pick(&[5, 6, 255]),
@@ -93,6 +93,10 @@ fn number(random: &mut Random, candidate: &mut Candidate) {
         4 => neighbour.nodetype = random.pick(&[3, 4, 255]),
         5 => neighbour.rank = random.pick(&[0, 65534, 65535]),
         6 => neighbour.flags ^= 1 << random.below(8),
+        7 => {
+            let above = neighbour.colour | 1 << random.within(10, 15);
+            neighbour.colour = random.pick(&[0, 1023, 1024, 65535, above, above]);
+        }
         _ => neighbour.rank = random.edgy_word(),
     }
 }

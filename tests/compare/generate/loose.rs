@@ -44,12 +44,16 @@ pub fn container(random: &mut Random) -> Vec<u8> {
 fn object(random: &mut Random, data: &mut Vec<u8>) {
     let kind = match random.below(8) {
         0 => random.edgy_byte(),
-        _ => random.within(1, 7) as u8,
+        _ => random.within(1, 8) as u8,
     };
     let flags = random.byte() & random.pick(&[0x07, 0xFF]);
     let mode = random.byte();
     let other = random.below(24);
-    let usual = if kind == 4 || kind == 5 { 4 } else { 2 };
+    let usual = match kind {
+        4 | 5 => 4,
+        8 => 3,
+        _ => 2,
+    };
     let unusual = random.pick(&[0, 1, 2, 2, 3, 4, 4, 5, 6, 8, other]);
     let size = random.pick(&[usual, usual, unusual]);
     data.extend([kind, flags, mode, size as u8]);

@@ -1,11 +1,13 @@
 //! Random calls: valid, nearly valid, overlapping, malformed, far out of range.
 
 mod body;
+mod colour;
 mod damage;
 mod layout;
 mod loose;
 mod numbers;
 mod object;
+mod record;
 mod scene;
 mod shared;
 mod wellformed;

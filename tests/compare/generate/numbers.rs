@@ -1,5 +1,6 @@
 //! Own numbers and neighbours' numbers, in range or not.
 
+use super::colour::colour;
 use super::scene::Scene;
 use crate::random::Random;
 use crate::reference::data::{Candidate, Neighbour, Own, CANDIDATES};
@@ -45,6 +46,7 @@ pub fn neighbour(random: &mut Random, own: &Own, scene: &Scene) -> Neighbour {
     neighbour.nodetype = random.below(4) as u8;
     neighbour.flags = mostly_known(random);
     neighbour.lql = random.below(8) as u8;
+    neighbour.colour = colour(random);
     neighbour
 }
 
@@ -83,6 +85,7 @@ pub fn any_neighbour(random: &mut Random) -> Neighbour {
         etx: random.edgy_word(),
         latency: random.edgy_long(),
         throughput: random.edgy_long(),
+        colour: random.edgy_word(),
     }
 }
 

@@ -58,10 +58,10 @@ impl<'a> Maker<'a> {
 
     /// A known type and a role that it can have.
     pub fn kind_and_role(&mut self) -> (u8, Role) {
-        let kind = self.random.within(1, 7) as u8;
+        let kind = self.random.within(1, 8) as u8;
         let roles: &[Role] = match kind {
             1 | 3 => &[Role::Constraint, Role::Aggregated],
-            6 => &[Role::Constraint, Role::Recorded],
+            6 | 8 => &[Role::Constraint, Role::Recorded],
             _ => &[Role::Constraint, Role::Aggregated, Role::Recorded],
         };
         (kind, self.random.pick(roles))
@@ -106,8 +106,8 @@ impl<'a> Maker<'a> {
 
     /// An object of unknown type.
     pub fn unknown(&mut self, room: usize) -> Vec<u8> {
-        let plain = self.random.within(8, 255) as u8;
-        let kind = self.random.pick(&[0, 8, 9, 200, 255, plain, plain]);
+        let plain = self.random.within(9, 255) as u8;
+        let kind = self.random.pick(&[0, 9, 10, 200, 255, plain, plain]);
         let most = room.saturating_sub(4);
         let size = match self.random.below(16) {
             0 => most,
@@ -132,7 +132,7 @@ impl<'a> Maker<'a> {
         if data.len() + 4 <= size {
             let body = size - data.len() - 4;
             let role = self.random.pick(&[Role::Constraint, Role::Recorded]);
-            let kind = self.random.pick(&[0, 8, 255]);
+            let kind = self.random.pick(&[0, 9, 255]);
             data.extend(self.header(kind, role, true, 0, body));
             data.extend(self.bytes(body));
         }

@@ -39,7 +39,7 @@ fn nest(random: &mut Random, call: &mut Call) {
     };
     let start = call.lent.len();
     let flags = random.pick(&[0x00, 0x02, 0x03]);
-    let kind = random.pick(&[0, 8, 255]);
+    let kind = random.pick(&[0, 9, 255]);
     call.lent.extend([2, bytes.len() as u8 + 4]);
     call.lent.extend([kind, flags, 0x80, bytes.len() as u8]);
     call.lent.extend(&bytes);

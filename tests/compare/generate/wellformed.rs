@@ -39,7 +39,7 @@ fn mixed(random: &mut Random, scene: &Scene, own: &Own, link: &Neighbour) -> Vec
             maker.unknown(MOST - data.len())
         } else {
             let (kind, role) = settled.unwrap_or_else(|| maker.kind_and_role());
-            let use_mark = usize::from(kind) + 8 * usize::from(role == Role::Constraint);
+            let use_mark = usize::from(kind - 1) + 8 * usize::from(role == Role::Constraint);
             if std::mem::replace(&mut used[use_mark], true) {
                 continue;
             }
@@ -80,7 +80,7 @@ fn minimal(random: &mut Random, scene: &Scene) -> Vec<u8> {
     let mut data = Vec::with_capacity(MOST);
     let objects = random.pick(&[62, 63, 63]);
     for _ in 0..objects {
-        let kind = random.pick(&[0, 8, 9, 200, 255]);
+        let kind = random.pick(&[0, 9, 10, 200, 255]);
         let flags = random.byte() & 0xFC | random.pick(&[0x00, 0x01, 0x03]);
         let mode = random.byte() | 0x80;
         data.extend([kind, flags, mode, 0]);
@@ -107,17 +107,16 @@ fn crowded(random: &mut Random) -> Vec<u8> {
 
 /// One recorded metric that fills the container, or leaves room for one or two more hops.
 fn recorded(random: &mut Random, scene: &Scene, own: &Own, link: &Neighbour) -> Vec<u8> {
-    let kind = random.pick(&[2, 4, 5, 6, 7]);
+    let kind = random.pick(&[2, 4, 5, 6, 7, 8]);
     let spare = random.pick(&[0, 0, 1, 2, 3, 4, 5, 8]);
     let mut maker = Maker::new(random, scene, own, link);
-    let unit = unit(kind);
-    let size = (MOST - 4 - spare) / unit * unit;
-    let body = if kind == 6 {
-        maker.levels(size - 1).bytes
-    } else {
-        maker.bytes(size)
+    let room = MOST - 4 - spare;
+    let body = match kind {
+        6 => maker.levels(room - 1).bytes,
+        8 => maker.colours((room - 1) / 2).bytes,
+        _ => maker.bytes(room / unit(kind) * unit(kind)),
     };
-    let mut data = maker.header(kind, Role::Recorded, true, 0, size);
+    let mut data = maker.header(kind, Role::Recorded, true, 0, body.len());
     data.extend(body);
     data
 }

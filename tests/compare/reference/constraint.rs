@@ -1,8 +1,9 @@
 //! When a constraint of a known type is met.
 
+use super::colour;
 use super::container::Container;
 use super::data::{Neighbour, AGGREGATOR, OVERLOADED};
-use super::object::{Object, ETX, HP, LATENCY, LQL, NE, NSA, THROUGHPUT};
+use super::object::{Object, COLOUR, ETX, HP, LATENCY, LQL, NE, NSA, THROUGHPUT};
 
 /// The I bit and the E bit of an NE flags byte; T stands between them.
 const INCLUDED: u8 = 0x08;
@@ -28,6 +29,7 @@ pub fn met(constraint: &Object, neighbour: &Neighbour, container: &Container) ->
             let received = container.sum(ETX).map_or(0, word);
             sum_met(received.into(), link.into(), word(body).into())
         }),
+        COLOUR => colour::met(word(&body[1..]), neighbour.colour),
         _ => true,
     }
 }
@@ -60,7 +62,7 @@ pub fn long(body: &[u8]) -> u32 {
     u32::from_be_bytes([body[0], body[1], body[2], body[3]])
 }
 
-/// The 16 bits of a body that holds one sub-object of two bytes.
+/// The 16 bits of a sub-object of two bytes, with which the bytes begin.
 pub fn word(body: &[u8]) -> u16 {
     u16::from_be_bytes([body[0], body[1]])
 }

@@ -58,6 +58,7 @@ pub struct Neighbour {
     pub etx: u16,
     pub latency: u32,
     pub throughput: u32,
+    pub colour: u16,
 }
 
 impl Neighbour {

@@ -1,16 +1,17 @@
 //! The parent's container is updated for this hop, or the node joins as a leaf (31 to 36).
 
+use super::colour;
 use super::constraint::{long, word};
 use super::container::{Container, OPTION_TYPE};
 use super::data::{Neighbour, Own, AGGREGATOR, OVERLOADED};
 use super::object::{
-    Object, Usage, CONSTRAINT, ETX, HP, LATENCY, LQL, NE, NSA, OPTIONAL, PARTIAL, RECORDED,
+    Object, Usage, COLOUR, CONSTRAINT, ETX, HP, LATENCY, LQL, NE, NSA, OPTIONAL, PARTIAL, RECORDED,
     THROUGHPUT,
 };
+use super::reserved::clear_reserved;
 
-/// The E bit of an NE flags byte, and all of the byte that is not reserved.
+/// The E bit of an NE flags byte.
 const ESTIMATED: u8 = 0x01;
-const ENERGY_FLAGS: u8 = 0x0F;
 
 /// The largest counter of an LQL sub-object.
 const FULL: u8 = 31;
@@ -77,6 +78,7 @@ impl Hop<'_> {
             LATENCY if self.link.latency().is_some() => 4,
             ETX if self.link.etx().is_some() => 2,
             LQL if self.counter(object.body).is_none() => 1,
+            COLOUR if colour::counter(object.body, self.link.colour).is_none() => 2,
             _ => 0,
         }
     }
@@ -164,6 +166,13 @@ impl Hop<'_> {
                 }
                 None => Some(put(&mut out[end..], &[self.link.lql << 5 | 1])),
             },
+            COLOUR => match colour::counter(object.body, self.link.colour) {
+                Some(place) => {
+                    out[place] += 1;
+                    Some(0)
+                }
+                None => Some(put(&mut out[end..], &colour::first(self.link.colour))),
+            },
             _ => None,
         }
     }
@@ -186,23 +195,5 @@ fn aggregated(a: u8, received: u32, local: u32) -> u32 {
         0 => received + local,
         1 => received.max(local),
         _ => received.min(local),
-    }
-}
-
-/// Clears the reserved bits in the body of a known object; an unknown body stays.
-fn clear_reserved(object: &Object, body: &mut [u8]) {
-    match object.kind {
-        NSA => {
-            body[0] = 0;
-            body[1] &= AGGREGATOR | OVERLOADED;
-        }
-        NE if object.usage() == Usage::Recorded => {
-            for flags in body.iter_mut().step_by(2) {
-                *flags &= ENERGY_FLAGS;
-            }
-        }
-        NE => body[0] &= ENERGY_FLAGS,
-        HP | LQL => body[0] = 0,
-        _ => {}
     }
 }

@@ -4,6 +4,7 @@
 //! nothing outside this folder.
 
 mod call;
+mod colour;
 mod constraint;
 pub mod container;
 pub mod data;
@@ -11,6 +12,7 @@ mod hop;
 mod listing;
 mod object;
 pub mod rank;
+mod reserved;
 mod verdict;
 
 pub use call::choose;

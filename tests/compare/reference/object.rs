@@ -7,6 +7,7 @@ pub const THROUGHPUT: u8 = 4;
 pub const LATENCY: u8 = 5;
 pub const LQL: u8 = 6;
 pub const ETX: u8 = 7;
+pub const COLOUR: u8 = 8;
 
 /// Byte 1 of an object header.
 pub const PARTIAL: u8 = 0x04;
@@ -36,7 +37,7 @@ pub struct Object<'a> {
 
 impl Object<'_> {
     pub fn known(&self) -> bool {
-        matches!(self.kind, NSA..=ETX)
+        matches!(self.kind, NSA..=COLOUR)
     }
 
     pub fn usage(&self) -> Usage {
@@ -66,10 +67,10 @@ impl Object<'_> {
         self.mode & 0x0F
     }
 
-    /// One bit per known type and C.
+    /// One bit per known type and C: sixteen for types 1 to 8.
     pub fn mark(&self) -> u16 {
         let constraint = self.flags & CONSTRAINT != 0;
-        1 << (self.kind + 8 * u8::from(constraint))
+        1 << (self.kind - NSA + 8 * u8::from(constraint))
     }
 
     /// Bars 15 to 17 of one object, where `seen` marks the known objects before it.
@@ -79,7 +80,7 @@ impl Object<'_> {
         }
         let forbidden = matches!(
             (self.kind, self.usage()),
-            (NSA | HP, Usage::Recorded) | (LQL, Usage::Aggregated)
+            (NSA | HP, Usage::Recorded) | (LQL | COLOUR, Usage::Aggregated)
         );
         if !forbidden && !self.shaped() {
             Some(15)
@@ -100,8 +101,10 @@ impl Object<'_> {
             NE | ETX if recorded => size >= 2 && size % 2 == 0,
             THROUGHPUT | LATENCY if recorded => size >= 4 && size % 4 == 0,
             LQL if recorded => size >= 2,
+            COLOUR if recorded => size >= 3 && size % 2 == 1,
             THROUGHPUT | LATENCY => size == 4,
             LQL | ETX => size == 2,
+            COLOUR => size == 3,
             _ => size >= 2 && tlvs_fit(&self.body[2..]),
         }
     }

@@ -1,5 +1,6 @@
 //! The verdict on one candidate: its container and resulting rank, or the first bar.
 
+use super::colour::HIGHEST;
 use super::constraint::met;
 use super::container::{Bar, Container};
 use super::data::{Candidate, Neighbour, Own};
@@ -31,6 +32,7 @@ fn in_range(neighbour: &Neighbour) -> bool {
         && neighbour.sr <= 5
         && neighbour.lql <= 7
         && neighbour.nodetype <= 3
+        && neighbour.colour <= HIGHEST
 }
 
 /// The candidate's part of the lent run, if it lies inside; a sum beyond 64 bits does not.

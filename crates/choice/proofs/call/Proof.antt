@@ -7,7 +7,7 @@ use lib.ListN.{length, getD, take}
 use Rattle.model.specs.declared.Choice.the-variants.{Parent}
 use Rattle.model.specs.Choice.{choiceOf}
 use Rattle.choice.specs.Given.{blank}
-use Rattle.choice.proofs.PassLaws.{Pass, gathered-none, pass-barred, pass-unbarred, pass-fits, pass-end}
+use Rattle.choice.proofs.PassLaws.{Pass, gathered-none, pass-barred, pass-unbarred, pass-end}
 use Rattle.choice.proofs.ParentLaws.{parent-at, parent-inside}
 use Rattle.choice.proofs.ReturnLaws.{runs, refused-returns, nobody-returns, parent-returns, as-returned}
 use Rattle.choice.proofs.call.Statement.{statement}
@@ -92,20 +92,8 @@ enum-known-rank c = search needs
 array-write-numbers-2 : tie.Need-array-write-numbers-2 Inv-loop μ-loop
 array-write-numbers-2 c = omega arith
 
-mul-places-2 : tie.Need-mul-places-2 Inv-loop μ-loop
-mul-places-2 c = omega arith
-
-array-write-places-2 : tie.Need-array-write-places-2 Inv-loop μ-loop
-array-write-places-2 c = omega arith
-
 bit-at-requires : tie.Need-bit-at-requires Inv-loop μ-loop
 bit-at-requires c κs = omega arith
-
-add-bits : tie.Need-add-bits Inv-loop μ-loop
-add-bits c =
-    let judged = c .before .before .before .before in
-    let at-loop = judged .before .before in
-    record { fits = pass-fits _ (at-loop .before .loop .inv) (at-loop .loop-test .taken) (judged .judge .ensures) (c .before .before .rank .given .1) (c .bit-at .ensures) }
 
 cast-better : tie.Need-cast-better Inv-loop μ-loop
 cast-better c = omega arith
@@ -202,10 +190,7 @@ call-spec =
     loop-again
     enum-known-rank
     array-write-numbers-2
-    mul-places-2
-    array-write-places-2
     bit-at-requires
-    add-bits
     cast-better
     better-requires
     add-i-2

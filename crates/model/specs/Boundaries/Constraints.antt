@@ -27,12 +27,13 @@ unknowns =
     ∷ asked neighbour0 (one 200 0x00 0x00 (0xAA ∷ [])) gives 10
     -- whatever P, R and A
     ∷ asked neighbour0 (one 200 0x06 0x90 []) gives 18
-    -- 0, 8 and 255 are unknown; 1 and 7 are known
+    -- 0, 9 and 255 are unknown; 1, 7 and 8 are known
     ∷ asked neighbour0 (one 0 0x02 0x00 []) gives 18
-    ∷ asked neighbour0 (one 8 0x02 0x00 []) gives 18
+    ∷ asked neighbour0 (one 9 0x02 0x00 []) gives 18
     ∷ asked neighbour0 (one 255 0x02 0x00 []) gives 18
     ∷ asked neighbour0 (demand 1 (0x00 ∷ 0x00 ∷ [])) gives 10
     ∷ asked (etxOf 128) (demand 7 (0x00 ∷ 0x80 ∷ [])) gives 10
+    ∷ asked neighbour0 (demand 8 (0x00 ∷ 0x00 ∷ 0x01 ∷ [])) gives 10
     -- the first object with 18 or 19
     ∷ asked neighbour0 (demand 200 [] ++ demand 7 (0x00 ∷ 0x80 ∷ [])) gives 18
     ∷ asked neighbour0 (demand 7 (0x00 ∷ 0x80 ∷ []) ++ demand 200 []) gives 19

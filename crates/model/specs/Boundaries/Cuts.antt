@@ -6,9 +6,9 @@ use Rattle.model.specs.Samples.{Example, _gives_, holding, empty, one}
 abbrev pub cuts : List (Example (List ℕ) (List ℕ))
 cuts =
     empty gives empty
-    -- an object of unknown type is dropped, header and body: 0, 8, 200 and 255, in every role
+    -- an object of unknown type is dropped, header and body: 0, 9, 200 and 255, in every role
     ∷ holding (one 0 0x00 0x80 (0xAA ∷ [])) gives empty
-    ∷ holding (one 8 0x03 0x00 []) gives empty
+    ∷ holding (one 9 0x03 0x00 []) gives empty
     ∷ holding (one 200 0x02 0x00 (0xAA ∷ 0xBB ∷ []) ++ one 255 0x00 0x00 []) gives empty
     ∷ holding (one 200 0x00 0x80 [] ++ one 7 0x00 0x00 (0x01 ∷ 0xC9 ∷ []) ++ one 200 0x00 0x80 []) gives holding (one 7 0x00 0x00 (0x01 ∷ 0xC9 ∷ []))
     -- NSA, NE and HP, as constraint and aggregated, keep the first two body bytes; nothing is cleared

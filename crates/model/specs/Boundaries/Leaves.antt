@@ -50,12 +50,12 @@ operations =
 
 abbrev pub leaves : List (Example Calling ℕ)
 leaves =
-    -- 31: aggregated, recorded, optional constraint; 0 and 8 are unknown, 1 and 7 are known
+    -- 31: aggregated, recorded, optional constraint; 0 and 9 are unknown, 1 and 7 are known
     hop own0 neighbour0 (one 200 0x00 0x00 (0xAA ∷ [])) gives 31
     ∷ hop own0 neighbour0 (one 200 0x00 0x80 (0xAA ∷ [])) gives 0
     ∷ hop own0 neighbour0 (one 200 0x03 0x00 (0xAA ∷ [])) gives 0
     ∷ hop own0 neighbour0 (one 0 0x00 0x00 []) gives 31
-    ∷ hop own0 neighbour0 (one 8 0x00 0x00 []) gives 31
+    ∷ hop own0 neighbour0 (one 9 0x00 0x00 []) gives 31
     ∷ hop own0 neighbour0 (one 1 0x00 0x10 (0x00 ∷ 0x00 ∷ [])) gives 0
     ∷ hop own0 (etxOf 128) (one 7 0x00 0x00 (0x00 ∷ 0x80 ∷ [])) gives 0
     -- 33: throughput, latency and ETX, unknown, though all else is known; known

@@ -51,10 +51,10 @@ lengths =
     ∷ shapes 2 0x03 0x80 (0 ∷ 1 ∷ 2 ∷ 3 ∷ 4 ∷ []) gives (15 ∷ 15 ∷ 10 ∷ 15 ∷ 10 ∷ [])
     ∷ shapes 6 0x03 0x80 (1 ∷ 2 ∷ 3 ∷ []) gives (15 ∷ 10 ∷ 15 ∷ [])
     ∷ shapes 7 0x03 0x80 (1 ∷ 2 ∷ 3 ∷ 4 ∷ []) gives (15 ∷ 10 ∷ 15 ∷ 15 ∷ [])
-    -- unknown types, just outside 1 to 7: any length
+    -- unknown types, just outside 1 to 8: any length
     ∷ shapes 0 0x00 0x80 (0 ∷ 1 ∷ 2 ∷ 3 ∷ []) gives (10 ∷ 10 ∷ 10 ∷ 10 ∷ [])
-    ∷ shapes 8 0x00 0x80 (0 ∷ 1 ∷ 2 ∷ 3 ∷ []) gives (10 ∷ 10 ∷ 10 ∷ 10 ∷ [])
-    ∷ shapes 8 0x03 0x00 (0 ∷ 1 ∷ 2 ∷ 3 ∷ []) gives (10 ∷ 10 ∷ 10 ∷ 10 ∷ [])
+    ∷ shapes 9 0x00 0x80 (0 ∷ 1 ∷ 2 ∷ 3 ∷ []) gives (10 ∷ 10 ∷ 10 ∷ 10 ∷ [])
+    ∷ shapes 9 0x03 0x00 (0 ∷ 1 ∷ 2 ∷ 3 ∷ []) gives (10 ∷ 10 ∷ 10 ∷ 10 ∷ [])
     ∷ shapes 255 0x00 0x00 (0 ∷ 1 ∷ 2 ∷ 3 ∷ []) gives (10 ∷ 10 ∷ 10 ∷ 10 ∷ [])
     ∷ []
 
@@ -118,7 +118,7 @@ uses =
     -- unknown types may repeat
     ∷ objects (zeros 200 0x00 0x80 2 ++ zeros 200 0x00 0x80 2) gives 10
     ∷ objects (zeros 0 0x03 0x00 2 ++ zeros 0 0x03 0x00 2) gives 10
-    ∷ objects (zeros 8 0x00 0x00 2 ++ zeros 8 0x00 0x00 2) gives 10
+    ∷ objects (zeros 9 0x00 0x00 2 ++ zeros 9 0x00 0x00 2) gives 10
     -- a malformed repeat is 15; a repeat that 17 forbids is 16
     ∷ objects (zeros 7 0x00 0x80 2 ++ zeros 7 0x00 0x80 1) gives 15
     ∷ objects (zeros 1 0x00 0x10 2 ++ zeros 1 0x00 0x80 2) gives 16

@@ -17,7 +17,7 @@ returns : tie.Need-returns
 returns c = send-unfit _ _ _ _ (c .before .is-unfit .ensures) (c .if1 .taken)
 
 plan-requires : tie.Need-plan-requires
-plan-requires c κs = fit-bounds (c .before .before .before .before .args .own) (c .before .before .before .before .args .neighbour) (c .before .before .before .before .args .container .now) (c .before .before .before .before .args .out .now) (c .before .is-unfit .ensures) (c .if1 .left) .2
+plan-requires c κs = fit-bounds (c .before .before .before .before .args .own) (c .before .before .before .before .args .neighbour) (c .before .before .before .before .args .container .now) (c .before .before .before .before .args .out .now) (c .before .is-unfit .ensures) (c .if1 .left) .3
 
 returns-2 : tie.Need-returns-2
 returns-2 c = send-nothing _ _ _ _ (c .before .before .before .before .is-unfit .ensures) (c .before .before .before .if1 .left) (c .before .before .plan .ensures) (c .if2 .taken)
@@ -46,7 +46,7 @@ put-objects-requires : tie.Need-put-objects-requires
 put-objects-requires c κs =
     let args = c .before .before .before .before .before .before .before .before .before .args in
     let bounds = fit-bounds (args .own) (args .neighbour) (args .container .now) (args .out .now) (c .before .before .before .before .before .before .is-unfit .ensures) (c .before .before .before .before .before .if1 .left) in
-    ((bounds .0, bounds .1), (refl, sends-fits (args .own) (args .neighbour) (args .container .now) (args .out .now) (c .before .before .before .before .plan .ensures) (c .before .before .if2 .left) .0))
+    ((bounds .0, bounds .1, bounds .2), (refl, sends-fits (args .own) (args .neighbour) (args .container .now) (args .out .now) (c .before .before .before .before .plan .ensures) (c .before .before .if2 .left) .0))
 
 array-share-prefix-built : tie.Need-array-share-prefix-built
 array-share-prefix-built c =

@@ -31,14 +31,22 @@ returns-4 c =
     let fourth = c .before in
     rw (← local-by _ _ _, ne-eqb _ _ (fourth .before .before .before .if1 .left), ne-eqb _ _ (fourth .before .before .if2 .left), ne-eqb _ _ (fourth .before .if3 .left), eq-eqb _ _ (fourth .if4 .taken))
 
-link-value-requires : tie.Need-link-value-requires
-link-value-requires c κs = search needs
+cast-t11 : tie.Need-cast-t11
+cast-t11 c = search needs
 
 returns-5 : tie.Need-returns-5
 returns-5 c =
-    let fourth = c .before in
+    let fifth = c .before in
+    rw (← local-by _ _ _, ne-eqb _ _ (fifth .before .before .before .before .if1 .left), ne-eqb _ _ (fifth .before .before .before .if2 .left), ne-eqb _ _ (fifth .before .before .if3 .left), ne-eqb _ _ (fifth .before .if4 .left), eq-eqb _ _ (fifth .if5 .taken))
+
+link-value-requires : tie.Need-link-value-requires
+link-value-requires c κs = search needs
+
+returns-6 : tie.Need-returns-6
+returns-6 c =
+    let fifth = c .before in
     c .link-value .ensures
-    ∙ rw (← local-by _ _ _, ne-eqb _ _ (fourth .before .before .before .if1 .left), ne-eqb _ _ (fourth .before .before .if2 .left), ne-eqb _ _ (fourth .before .if3 .left), ne-eqb _ _ (fourth .if4 .left))
+    ∙ rw (← local-by _ _ _, ne-eqb _ _ (fifth .before .before .before .before .if1 .left), ne-eqb _ _ (fifth .before .before .before .if2 .left), ne-eqb _ _ (fifth .before .before .if3 .left), ne-eqb _ _ (fifth .before .if4 .left), ne-eqb _ _ (fifth .if5 .left))
 
 pub local-value-spec : {M : Type 1} → statement M
 local-value-spec =
@@ -52,5 +60,7 @@ local-value-spec =
     returns-3
     cast-t10
     returns-4
+    cast-t11
+    returns-5
     link-value-requires
-    returns-5)
+    returns-6)

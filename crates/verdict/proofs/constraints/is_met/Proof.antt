@@ -1,6 +1,6 @@
 use Rattle.model.specs.Object.{kindOf}
 use Rattle.model.proofs.TabledLaws.{fixed-base, fixed-whole}
-use Rattle.model.proofs.ConstraintLaws.{met-nsa, met-ne, met-hp, met-throughput, met-latency, met-lql, met-etx, met-unknown, past-known}
+use Rattle.model.proofs.ConstraintLaws.{met-nsa, met-ne, met-hp, met-throughput, met-latency, met-lql, met-etx, met-colour, met-unknown, past-known}
 use Rattle.wire.proofs.NumberLaws.{number-in}
 use mathlib.Core.Path.{refl, _∙_}
 use native.Mathlib.Omega.{arith}
@@ -113,10 +113,31 @@ returns-7 c =
     c .meets-etx .ensures
     ∙ met-etx (args .neighbour) (args .summary) (args .mctype) (args .body .now) _ (c .before .before .if7 .taken) (c .before .number-2 .ensures ∙ number-in 2 (args .body .now) (fixed-whole (args .mctype) 7 (args .body .now) (c .before .before .if7 .taken) refl (start .pre)))
 
+shared-slice-read-meets-colour : tie.Need-shared-slice-read-meets-colour
+unfolding kindOf
+shared-slice-read-meets-colour c =
+    let start = c .before .before .before .before .before .before .before .before .before .before in
+    let three = fixed-base (start .args .mctype) 8 (start .args .body .now) (c .before .if8 .taken) (start .pre) in
+    omega arith
+
+shared-slice-read-meets-colour-2 : tie.Need-shared-slice-read-meets-colour-2
+unfolding kindOf
+shared-slice-read-meets-colour-2 c =
+    let start = c .before .before .before .before .before .before .before .before .before .before .before in
+    fixed-base (start .args .mctype) 8 (start .args .body .now) (c .before .before .if8 .taken) (start .pre)
+
+meets-colour-requires : tie.Need-meets-colour-requires
+meets-colour-requires c κs = search needs
+
 returns-8 : tie.Need-returns-8
 returns-8 c =
-    let args = c .before .before .before .before .before .before .before .before .args in
-    met-unknown (args .neighbour) (args .summary) (args .mctype) (args .body .now) (past-known (args .mctype) (c .before .before .before .before .before .before .if1 .left) (c .before .before .before .before .before .if2 .left) (c .before .before .before .before .if3 .left) (c .before .before .before .if4 .left) (c .before .before .if5 .left) (c .before .if6 .left) (c .if7 .left))
+    let args = c .before .before .before .before .before .before .before .before .before .before .before .before .args in
+    c .meets-colour .ensures ∙ met-colour (args .neighbour) (args .summary) (args .mctype) (args .body .now) (c .before .before .before .if8 .taken)
+
+returns-9 : tie.Need-returns-9
+returns-9 c =
+    let args = c .before .before .before .before .before .before .before .before .before .args in
+    met-unknown (args .neighbour) (args .summary) (args .mctype) (args .body .now) (past-known (args .mctype) (c .before .before .before .before .before .before .before .if1 .left) (c .before .before .before .before .before .before .if2 .left) (c .before .before .before .before .before .if3 .left) (c .before .before .before .before .if4 .left) (c .before .before .before .if5 .left) (c .before .before .if6 .left) (c .before .if7 .left) (c .if8 .left))
 
 pub is-met-spec : {M : Type 1} → statement M
 is-met-spec =
@@ -144,4 +165,8 @@ is-met-spec =
     number-2-requires
     meets-etx-requires
     returns-7
-    returns-8)
+    shared-slice-read-meets-colour
+    shared-slice-read-meets-colour-2
+    meets-colour-requires
+    returns-8
+    returns-9)

@@ -12,9 +12,6 @@ is-known-requires c κs = search needs
 use-index-requires : tie.Need-use-index-requires
 use-index-requires c κs = sym (c .before .is-known .ensures) ∙ c .if1 .taken
 
-cast-result : tie.Need-cast-result
-cast-result c = search needs
-
 shr-result : tie.Need-shr-result
 shr-result c = search needs
 
@@ -29,4 +26,4 @@ returns-2 : tie.Need-returns-2
 returns-2 c = no-use _ (objectOf (c .before .before .args .header) []) (sym (c .before .is-known .ensures) ∙ c .if1 .left)
 
 pub has-spec : {M : Type 1} → statement M
-has-spec = tie.close (tie.spec is-known-requires use-index-requires cast-result shr-result returns returns-2)
+has-spec = tie.close (tie.spec is-known-requires use-index-requires shr-result returns returns-2)

@@ -1,7 +1,7 @@
 use mathlib.Core.Path.{refl}
 use native.Mathlib.Omega.{arith}
 use borrow.Author.Needs.{needs}
-use Rattle.wire.proofs.SeenLaws.{known-within}
+use Rattle.wire.proofs.RowLaws.{known-within}
 use Rattle.wire.proofs.seen.use_index.Statement.{statement}
 use Rattle.wire.proofs.seen.use_index.Tie as tie
 

@@ -20,7 +20,7 @@ cast-result : tie.Need-cast-result
 cast-result c = search needs
 
 shl-result : tie.Need-shl-result
-shl-result c = c .use-index .ensures .0
+shl-result c = search needs
 
 returns-2 : tie.Need-returns-2
 returns-2 c =
