@@ -93,13 +93,14 @@ counted-shaped v (x ∷ t) e =
     let h = some-level v t in
     rw (le-leb 2 (suc (length (countLevel v t))) (omega arith), eq-eqb ((suc (length (countLevel v t)) - 1) % 1) 0 (omega arith))
 
--- recorded colour: a byte, then sub-objects of two bytes, as many as before or one more
+-- a cleared colour constraint keeps its length
 pub length-clearColour : (b : List ℕ) → length (clearColour b) ≡ length b
 length-clearColour [] = refl
 length-clearColour (x ∷ []) = refl
 length-clearColour (x ∷ y ∷ []) = refl
 length-clearColour (x ∷ y ∷ z ∷ t) = refl
 
+-- recorded colour: a byte, then sub-objects of two bytes, as many as before or one more
 pub colours-even : (v : ℕ) (t : List ℕ) → length t % 2 ≡ 0 → (length (countColour v t) % 2 ≡ 0) × (2 ≤ length (countColour v t))
 colours-even v [] e = (refl, omega arith)
 colours-even v (x ∷ []) e = absurd (omega arith)
