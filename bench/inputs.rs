@@ -1,7 +1,7 @@
 //! The inputs of the benchmark: calls in which every candidate is unbarred, the first becomes the parent and its container is
 //! passed on; but in `nobody` there is no candidate, and in `barred` all are barred.
 
-use super::reference::data::{Candidate, Neighbour, Own, CANDIDATES};
+use super::reference::data::{Candidate, Neighbour, Own, CANDIDATES, GROUNDED};
 
 pub struct Input {
     pub own: Own,
@@ -126,6 +126,7 @@ fn call(count: usize, flags: u8, data_of: impl Fn(usize) -> Vec<u8>) -> Input {
             nodetype: 1,
             flags: 0x04,
             energy: 100, // percent
+            edition: 1,
             ..Own::default()
         },
         candidates: [Candidate::default(); CANDIDATES],
@@ -159,6 +160,17 @@ fn call(count: usize, flags: u8, data_of: impl Fn(usize) -> Vec<u8>) -> Input {
     input
 }
 
+/// The typical call in edition 2: its candidates differ in nothing that comes before the rank.
+fn second_edition() -> Input {
+    let mut input = call(6, ALL_KNOWN | GROUNDED, typical);
+    input.own.edition = 2;
+    for candidate in &mut input.candidates {
+        candidate.neighbour.order = 1;
+        candidate.neighbour.preference = 3;
+    }
+    input
+}
+
 /// Sixteen candidates with an Sp above 9, which is bar 11.
 fn barred() -> Input {
     let mut input = call(16, ALL_KNOWN, typical);
@@ -180,6 +192,7 @@ pub fn named(name: &str, size: usize) -> Option<Input> {
         "constraints" => Some(call(16, ALL_KNOWN, |_| constraints())),
         "colours" => Some(call(16, ALL_KNOWN, |_| colours())),
         "optional" => Some(call(16, ALL_KNOWN, |_| one_optional(size))),
+        "second" => Some(second_edition()),
         "nobody" => Some(call(0, ALL_KNOWN, typical)),
         "barred" => Some(barred()),
         _ => None,

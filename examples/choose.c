@@ -20,7 +20,7 @@ static const uint8_t received[] = {
 /* A neighbour with a link of a known ETX, and where its container stands among those received. */
 static gardhnosk_candidate candidate(uint16_t rank, uint8_t nodetype, uint16_t etx, size_t start, size_t size)
 {
-    gardhnosk_candidate c = {{0, 0, 0, 0, 0, 0, 0, 0, 0, 0, 0, 0}, 0, 0};
+    gardhnosk_candidate c = {{0, 0, 0, 0, 0, 0, 0, 0, 0, 0, 0, 0, 0, 0}, 0, 0};
     c.neighbour.rank = rank;
     c.neighbour.sp = 3; /* RFC 6552's default: one hop is three units */
     c.neighbour.rf = 1;
@@ -63,8 +63,8 @@ static void print_answer(const gardhnosk_answer *answer, size_t count, const uin
 
 int main(void)
 {
-    /* MinHopRankIncrease 256, no limit, on a battery at 70 percent, no current parent */
-    gardhnosk_own own = {256, 0, 0, 1, GARDHNOSK_ENERGY_KNOWN, 70, 0};
+    /* MinHopRankIncrease 256, no limit, on a battery at 70 percent, edition 1, no current parent */
+    gardhnosk_own own = {256, 0, 0, 1, GARDHNOSK_ENERGY_KNOWN, 70, 1, 0};
     gardhnosk_candidates neighbours;
     size_t count = 3;
     uint8_t container[GARDHNOSK_OUTPUT_ROOM];

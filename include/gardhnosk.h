@@ -33,10 +33,11 @@ enum {
     GARDHNOSK_REFUSAL_COUNT = 2,   /* more than 16 candidates */
     GARDHNOSK_REFUSAL_CURRENT = 3, /* the current parent's position is not below the number of candidates */
     GARDHNOSK_REFUSAL_OUTPUT = 4,  /* the output is shorter than 257 bytes */
+    GARDHNOSK_REFUSAL_EDITION = 5, /* the edition is not 1 or 2 */
 
     /* verdicts on a candidate: it can be the parent, or it is barred */
     GARDHNOSK_UNBARRED = 10,     /* unbarred */
-    GARDHNOSK_BAR_NUMBERS = 11,  /* Sp not 1 to 9, Rf not 1 to 4, Sr above 5, LQL above 7, type above 3, or colour above 1023 */
+    GARDHNOSK_BAR_NUMBERS = 11,  /* Sp, Rf, Sr, LQL, type or colour out of range; in edition 2 also interface order or root preference */
     GARDHNOSK_BAR_OUTSIDE = 12,  /* the container is not inside the lent bytes */
     GARDHNOSK_BAR_FRAME = 13,    /* the container is under 2 bytes, does not start with 2, or its data length is wrong */
     GARDHNOSK_BAR_OBJECT = 14,   /* an object's header or body runs past the end of the container */
@@ -79,12 +80,20 @@ enum {
     GARDHNOSK_CURRENT_GIVEN = 0x10,    /* own: there is a current parent */
     GARDHNOSK_ETX_KNOWN = 0x08,        /* neighbour: etx is known */
     GARDHNOSK_LATENCY_KNOWN = 0x10,    /* neighbour: latency is known */
-    GARDHNOSK_THROUGHPUT_KNOWN = 0x20  /* neighbour: throughput is known */
+    GARDHNOSK_THROUGHPUT_KNOWN = 0x20, /* neighbour: throughput is known */
+    GARDHNOSK_GROUNDED = 0x40          /* neighbour: its DODAG is grounded; edition 1 ignores it */
 };
 
 /*
- * The node's own numbers. The energy is E_E of RFC 6551, section 3.2, an estimate in percent: on a battery the expected lifetime
- * divided by the one wanted, on a scavenger the power provided divided by the power consumed. So it can be above 100.
+ * The node's own numbers. The edition says by what unbarred candidates are compared, the first on which two differ deciding:
+ *   1: the lower resulting rank, then the current parent, then the lower position;
+ *   2: the lower interface order, then a grounded DODAG, then the higher root preference, and then as edition 1.
+ * It is to be set: a zeroed struct in which it is left out names edition 0, and its call is GARDHNOSK_REFUSAL_EDITION. It is newer than the
+ * other fields, and stands where the struct had padding: compile anew what was compiled with a header without it, and mind a list of
+ * values without names, in which it stands before current.
+ *
+ * The energy is E_E of RFC 6551, section 3.2, an estimate in percent: on a battery the expected lifetime divided by the one wanted, on a
+ * scavenger the power provided divided by the power consumed. So it can be above 100.
  */
 typedef struct {
     uint16_t minhop;      /* MinHopRankIncrease, not 0 */
@@ -93,6 +102,7 @@ typedef struct {
     uint8_t nodetype;     /* T of RFC 6551's NE: 0 mains, 1 battery, 2 scavenger; 3 is accepted, RFC 6551 gives it no meaning */
     uint8_t flags;        /* GARDHNOSK_OVERLOADED to GARDHNOSK_CURRENT_GIVEN */
     uint8_t energy;       /* remaining energy in percent, 0 to 255, with GARDHNOSK_ENERGY_KNOWN */
+    uint8_t edition;      /* 1, or 2 */
     size_t current;       /* the current parent's position among the candidates, with GARDHNOSK_CURRENT_GIVEN */
 } gardhnosk_own;
 
@@ -108,8 +118,12 @@ typedef struct {
  * more; with I=0 where at least one of them is not. So a colour of 0 is met by every link with I=1, and by none with I=0. The first bit of
  * RFC 6551's field is 512, the last is 1.
  *
- * The colour is newer than the other fields, and stands where a candidate had padding: compile anew what was compiled with a header
- * without it, and set it, to 0 where links have no colours. Otherwise what was there can be GARDHNOSK_BAR_NUMBERS.
+ * Interface order, GARDHNOSK_GROUNDED and root preference are read in edition 2 only, where an order or a preference above 7 is
+ * GARDHNOSK_BAR_NUMBERS. In edition 1 they may hold anything.
+ *
+ * The colour, the order and the preference are newer than the other fields, and stand where a candidate had padding: compile anew what was
+ * compiled with a header without them, and set them, the colour to 0 where links have none. Otherwise what was there can be
+ * GARDHNOSK_BAR_NUMBERS, or in edition 2 another parent.
  */
 typedef struct {
     uint16_t rank;       /* the rank that it advertised */
@@ -117,13 +131,15 @@ typedef struct {
     uint8_t rf;          /* Rf, rank_factor: 1 to 4, usually 1 (DEFAULT_RANK_FACTOR) */
     uint8_t sr;          /* Sr, up to stretch_of_rank: 0 to 5, usually 0 (DEFAULT_RANK_STRETCH) */
     uint8_t nodetype;    /* as own's, 0 to 3 */
-    uint8_t flags;       /* OVERLOADED, AGGREGATOR, ENERGY_KNOWN, ETX_KNOWN, LATENCY_KNOWN, THROUGHPUT_KNOWN */
+    uint8_t flags;       /* OVERLOADED, AGGREGATOR, ENERGY_KNOWN, ETX_KNOWN, LATENCY_KNOWN, THROUGHPUT_KNOWN, GROUNDED */
     uint8_t energy;      /* as own's, in percent, with GARDHNOSK_ENERGY_KNOWN */
     uint8_t lql;         /* the link's quality level, 1 best to 7; 0 unknown */
     uint16_t etx;        /* the link's ETX times 128, with GARDHNOSK_ETX_KNOWN */
     uint32_t latency;    /* the link's latency in microseconds, with GARDHNOSK_LATENCY_KNOWN */
     uint32_t throughput; /* the link's throughput in bytes per second, with GARDHNOSK_THROUGHPUT_KNOWN */
     uint16_t colour;     /* the link's colour, 0 to 1023: ten flag bits of the network's own meaning; 0: none is set */
+    uint8_t order;       /* the order of the interface that it is heard on, 0 best to 7, in edition 2 */
+    uint8_t preference;  /* its root's preference (DODAGPreference), 0 to 7, 7 best, in edition 2 */
 } gardhnosk_neighbour;
 
 /* A candidate: a neighbour, and where its container stands in the lent bytes. Containers may overlap. */

@@ -13,10 +13,11 @@ typedef struct {
 
 static const layout_t layout[] = {
     SIZE(own, 24), AT(own, minhop, 0), AT(own, maxincrease, 2), AT(own, lowest, 4), AT(own, nodetype, 6), AT(own, flags, 7),
-    AT(own, energy, 8), AT(own, current, 16),
+    AT(own, energy, 8), AT(own, edition, 9), AT(own, current, 16),
     SIZE(neighbour, 24), AT(neighbour, rank, 0), AT(neighbour, sp, 2), AT(neighbour, rf, 3), AT(neighbour, sr, 4),
     AT(neighbour, nodetype, 5), AT(neighbour, flags, 6), AT(neighbour, energy, 7), AT(neighbour, lql, 8), AT(neighbour, etx, 10),
-    AT(neighbour, latency, 12), AT(neighbour, throughput, 16), AT(neighbour, colour, 20),
+    AT(neighbour, latency, 12), AT(neighbour, throughput, 16), AT(neighbour, colour, 20), AT(neighbour, order, 22),
+    AT(neighbour, preference, 23),
     SIZE(candidate, 40), AT(candidate, neighbour, 0), AT(candidate, start, 24), AT(candidate, size, 32),
     SIZE(candidates, 640), AT(candidates, at, 0),
     SIZE(answer, 58), AT(answer, refusal, 0), AT(answer, parent, 1), AT(answer, rank, 2), AT(answer, verdicts, 4),
@@ -70,6 +71,9 @@ static const passage_t own_passages[] = {
     {"nodetype", RECORDED_ENERGY, NO_FIELD, NO_FIELD, OWN(nodetype), 1, 2, BYTE + 8, 0x02, 0x04},
     {"nodetype", EMPTY, NO_FIELD, NO_FIELD, OWN(nodetype), 3, 4, REFUSAL, GARDHNOSK_NONE, GARDHNOSK_REFUSAL_OWN},
     {"energy", MOST_ENERGY, OWN(flags), GARDHNOSK_ENERGY_KNOWN, NO_FIELD, OWN(energy), 7, 9, BYTE + 7, 7, 9},
+    {"edition", EMPTY, NO_FIELD, NO_FIELD, OWN(edition), 1, 0, REFUSAL, GARDHNOSK_NONE, GARDHNOSK_REFUSAL_EDITION},
+    {"edition", EMPTY, NO_FIELD, NO_FIELD, OWN(edition), 2, 3, REFUSAL, GARDHNOSK_NONE, GARDHNOSK_REFUSAL_EDITION},
+    {"edition", EMPTY, NEIGHBOUR(order), 8, NO_FIELD, OWN(edition), 1, 2, VERDICT, GARDHNOSK_UNBARRED, GARDHNOSK_BAR_NUMBERS},
     {"current", EMPTY, OWN(flags), GARDHNOSK_CURRENT_GIVEN, NO_FIELD, OWN(current), 15, 16, REFUSAL, GARDHNOSK_NONE,
      GARDHNOSK_REFUSAL_CURRENT},
     {"OVERLOADED", ANY_FLAG, NO_FIELD, NO_FIELD, OWN(flags), 0, GARDHNOSK_OVERLOADED, BYTE + 7, 0, 1},
@@ -105,6 +109,10 @@ static const passage_t candidate_passages[] = {
     {"colour", COLOUR_513, NO_FIELD, NO_FIELD, NEIGHBOUR(colour), 1023, 1, VERDICT, GARDHNOSK_UNBARRED, GARDHNOSK_BAR_UNMET},
     {"colour", NO_COLOUR_513, NO_FIELD, NO_FIELD, NEIGHBOUR(colour), 512, 513, VERDICT, GARDHNOSK_UNBARRED, GARDHNOSK_BAR_UNMET},
     {"colour", EMPTY, NO_FIELD, NO_FIELD, NEIGHBOUR(colour), 1023, 1024, VERDICT, GARDHNOSK_UNBARRED, GARDHNOSK_BAR_NUMBERS},
+    {"order", EMPTY, OWN(edition), 2, NO_FIELD, NEIGHBOUR(order), 7, 8, VERDICT, GARDHNOSK_UNBARRED, GARDHNOSK_BAR_NUMBERS},
+    {"order", EMPTY, NO_FIELD, NO_FIELD, NEIGHBOUR(order), 7, 255, VERDICT, GARDHNOSK_UNBARRED, GARDHNOSK_UNBARRED},
+    {"preference", EMPTY, OWN(edition), 2, NO_FIELD, NEIGHBOUR(preference), 7, 8, VERDICT, GARDHNOSK_UNBARRED, GARDHNOSK_BAR_NUMBERS},
+    {"preference", EMPTY, NO_FIELD, NO_FIELD, NEIGHBOUR(preference), 7, 255, VERDICT, GARDHNOSK_UNBARRED, GARDHNOSK_UNBARRED},
     {"OVERLOADED", NO_OVERLOAD, NO_FIELD, NO_FIELD, NEIGHBOUR(flags), 0, GARDHNOSK_OVERLOADED, VERDICT, GARDHNOSK_UNBARRED,
      GARDHNOSK_BAR_UNMET},
     {"AGGREGATOR", AGGREGATORS, NO_FIELD, NO_FIELD, NEIGHBOUR(flags), 0, GARDHNOSK_AGGREGATOR, VERDICT, GARDHNOSK_BAR_UNMET,
@@ -117,7 +125,8 @@ static const passage_t candidate_passages[] = {
      GARDHNOSK_BAR_UNMET, GARDHNOSK_UNBARRED},
     {"THROUGHPUT_KNOWN", THROUGHPUT_FROM_70000, NEIGHBOUR(throughput), 70000, NO_FIELD, NEIGHBOUR(flags), 0,
      GARDHNOSK_THROUGHPUT_KNOWN, VERDICT, GARDHNOSK_BAR_UNMET, GARDHNOSK_UNBARRED},
-    {"other bits", ETX_TO_256, NO_FIELD, NO_FIELD, NEIGHBOUR(flags), 0, 0xC0, VERDICT, GARDHNOSK_BAR_UNMET, GARDHNOSK_BAR_UNMET},
+    {"other bits", ETX_TO_256, NO_FIELD, NO_FIELD, NEIGHBOUR(flags), 0, 0x80 | GARDHNOSK_GROUNDED, VERDICT, GARDHNOSK_BAR_UNMET,
+     GARDHNOSK_BAR_UNMET},
     {"start", EMPTY, NO_FIELD, NO_FIELD, CANDIDATE(start), 0, 1, VERDICT, GARDHNOSK_UNBARRED, GARDHNOSK_BAR_OUTSIDE},
     {"size", EMPTY, NO_FIELD, NO_FIELD, CANDIDATE(size), 2, 1, VERDICT, GARDHNOSK_UNBARRED, GARDHNOSK_BAR_FRAME},
 };
@@ -243,6 +252,61 @@ static void check_current(void)
     }
 }
 
+/* ---- editions: two candidates, and whom each edition makes the parent */
+
+/* what edition 2 reads of a candidate, and its rank */
+typedef struct {
+    uint8_t order, flags, preference;
+    uint16_t rank;
+} site_t;
+
+typedef struct {
+    const char *decides;
+    site_t first, second;
+    int current; /* -1: there is none */
+    unsigned long in_first_edition, in_second_edition;
+} contest_t;
+
+/* each criterion decides by itself, while all behind it speak for the other */
+static const contest_t contests[] = {
+    {"order", {1, GARDHNOSK_GROUNDED, 7, 256}, {0, 0, 0, 512}, 0, 0, 1},
+    {"grounded", {3, 0, 7, 256}, {3, GARDHNOSK_GROUNDED, 0, 512}, 0, 0, 1},
+    {"no other flag", {3, 0xFF - GARDHNOSK_GROUNDED, 7, 256}, {3, GARDHNOSK_GROUNDED, 0, 512}, 0, 0, 1},
+    {"preference", {3, 0, 4, 256}, {3, 0, 5, 512}, 0, 0, 1},
+    {"rank", {3, 0, 4, 257}, {3, 0, 4, 256}, 0, 1, 1},
+    {"current", {3, 0, 4, 256}, {3, 0, 4, 256}, 1, 1, 1},
+    {"position", {3, 0, 4, 256}, {3, 0, 4, 256}, -1, 0, 0},
+    {"out of range", {200, 0, 200, 256}, {0, 0, 0, 512}, -1, 0, 1},
+};
+
+static void put_site(call_t *call, size_t position, site_t site)
+{
+    gardhnosk_neighbour *neighbour = &call->candidates.at[position].neighbour;
+    put_candidate(call, position, EMPTY);
+    neighbour->rank = site.rank;
+    neighbour->flags = site.flags;
+    neighbour->order = site.order;
+    neighbour->preference = site.preference;
+}
+
+static void check_editions(void)
+{
+    for (size_t i = 0; i < LENGTH(contests); i++) {
+        const contest_t *contest = &contests[i];
+        call_t call = new_call();
+        put_site(&call, 0, contest->first);
+        put_site(&call, 1, contest->second);
+        call.count = 2;
+        if (contest->current >= 0) call.own.flags = GARDHNOSK_CURRENT_GIVEN;
+        if (contest->current >= 0) call.own.current = (size_t)contest->current;
+        run(&call);
+        same("edition 1", contest->decides, call.answer.parent, contest->in_first_edition);
+        call.own.edition = 2;
+        run(&call);
+        same("edition 2", contest->decides, call.answer.parent, contest->in_second_edition);
+    }
+}
+
 /* ---- refusals and leaf answers */
 
 typedef struct {
@@ -258,6 +322,10 @@ static const refusal_t refusals[] = {
     {OWN(flags), GARDHNOSK_CURRENT_GIVEN, 17, GARDHNOSK_OUTPUT_ROOM - 1, GARDHNOSK_REFUSAL_COUNT},
     {OWN(flags), GARDHNOSK_CURRENT_GIVEN, 0, GARDHNOSK_OUTPUT_ROOM - 1, GARDHNOSK_REFUSAL_CURRENT},
     {OWN(flags), 0, 16, GARDHNOSK_OUTPUT_ROOM - 1, GARDHNOSK_REFUSAL_OUTPUT},
+    {OWN(edition), 3, 16, GARDHNOSK_OUTPUT_ROOM - 1, GARDHNOSK_REFUSAL_OUTPUT},
+    {OWN(edition), 3, 16, GARDHNOSK_OUTPUT_ROOM, GARDHNOSK_REFUSAL_EDITION},
+    {OWN(edition), 0, 16, GARDHNOSK_OUTPUT_ROOM, GARDHNOSK_REFUSAL_EDITION},
+    {OWN(edition), 2, 16, GARDHNOSK_OUTPUT_ROOM, GARDHNOSK_NONE},
 };
 
 static void check_refusals(void)
@@ -413,6 +481,7 @@ int main(void)
     check_answer();
     check_count();
     check_current();
+    check_editions();
     check_refusals();
     check_leaves();
     check_colours();

@@ -67,13 +67,14 @@ static void put_candidate(call_t *call, size_t position, const char *hex)
     put_container(call, position, hex);
 }
 
-/* A call with 16 candidates, all of them zeros and so barred by 11, in which MinHopRankIncrease is 256. */
+/* A call with 16 candidates, all of them zeros and so barred by 11, in which MinHopRankIncrease is 256 and the edition 1. */
 static call_t new_call(void)
 {
     call_t call;
     memset(&call, 0, sizeof call);
     memset(call.out, 0xEE, sizeof call.out);
     call.own.minhop = 256;
+    call.own.edition = 1;
     call.count = 16;
     call.out_size = sizeof call.out;
     return call;

@@ -3,7 +3,8 @@
 use super::compare::Given;
 use super::cut::{is_constraint, is_mandatory, objects};
 use super::generate::Call;
-use super::reference::data::{Candidate, Neighbour};
+use super::ranges::{only, Number};
+use super::reference::data::Candidate;
 
 const COLOUR: u8 = 8;
 
@@ -52,7 +53,8 @@ impl Colours {
         for (position, candidate) in call.given().iter().enumerate() {
             let verdict = given.answer.verdicts[position];
             let place = given.answer.places[position];
-            self.out_of_range += u64::from(verdict == 11 && only_colour(&candidate.neighbour));
+            let colour_alone = only(Number::Colour, call.own.edition, &candidate.neighbour);
+            self.out_of_range += u64::from(verdict == 11 && colour_alone);
             for (index, object) in received(call, candidate).into_iter().enumerate() {
                 if object[0] != COLOUR {
                     continue;
@@ -154,12 +156,6 @@ impl Colours {
 fn received<'a>(call: &'a Call, candidate: &Candidate) -> Vec<&'a [u8]> {
     let container = call.container(candidate).and_then(objects);
     container.unwrap_or_default()
-}
-
-/// Whether the colour is out of range, and every other number in it.
-fn only_colour(link: &Neighbour) -> bool {
-    let steps = matches!((link.sp, link.rf, link.sr), (1..=9, 1..=4, 0..=5));
-    link.colour >= 1024 && steps && link.lql <= 7 && link.nodetype <= 3
 }
 
 /// The colour that a constraint names, and its I.

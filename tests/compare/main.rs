@@ -1,17 +1,20 @@
 //! Compares the proved static library with a second implementation on random calls, and tries
-//! demand 3 on pairs of the library's calls.
+//! demand 3, and what edition 1 does not read, on pairs of the library's calls.
 
 mod arguments;
 mod colours;
 mod compare;
 mod cut;
+mod editions;
 mod examples;
+mod first_edition;
 mod generate;
 mod guarded;
 mod library;
 mod limits;
 mod pairs;
 mod random;
+mod ranges;
 mod reference;
 mod replay;
 mod report;

@@ -5,7 +5,7 @@ use super::cut;
 use super::generate::{lay, pattern, Call};
 use super::random::Random;
 use super::reference::container::Container;
-use super::reference::data::{Candidate, Own, CURRENT_GIVEN};
+use super::reference::data::{Candidate, Own, CURRENT_GIVEN, SECOND_EDITION};
 
 /// Two calls and what the library gave in each.
 pub struct Pair {
@@ -18,13 +18,16 @@ pub struct Pair {
 pub enum Wrong {
     /// A sentence of demand 3 does not hold.
     Sentence(String, Box<Pair>),
+    /// Edition 1 gives something else where what it does not read is other.
+    FirstEdition(Box<Pair>),
     /// A call that the pair needs differs from the reference.
     Call(Box<Call>, Box<Difference>),
 }
 
-/// Which sorts of containers a pair had.
+/// Which edition and which sorts of containers a pair had.
 #[derive(Default)]
 pub struct Sort {
+    pub second_edition: bool,
     /// Some container holds an unknown mandatory constraint.
     pub mandatory: bool,
     /// A candidate is barred in the first call alone.
@@ -74,7 +77,8 @@ pub fn check(random: &mut Random, call: &Call, given: &Given) -> Result<Option<S
     }
 }
 
-fn run(random: &mut Random, call: &Call) -> Result<Given, Wrong> {
+/// A further call, for a pair.
+pub fn run(random: &mut Random, call: &Call) -> Result<Given, Wrong> {
     choice(random, call).map_err(|difference| Wrong::Call(Box::new(call.clone()), difference))
 }
 
@@ -156,7 +160,10 @@ struct Sentences<'a> {
 
 impl Sentences<'_> {
     fn all(&self) -> Result<Sort, String> {
-        let mut sort = Sort::default();
+        let mut sort = Sort {
+            second_edition: self.call.own.edition == SECOND_EDITION,
+            ..Sort::default()
+        };
         self.barred(&mut sort)?;
         if !ranks_agree(self.call, self.first) || !ranks_agree(self.call, self.second) {
             return Err("a rank is not the parent's resulting rank".to_string());

@@ -48,23 +48,25 @@ impl Place {
         match wrong {
             Wrong::Call(call, difference) => {
                 self.choice(call, difference);
-                println!("(a call made for demand 3)");
+                println!("(a call made for a pair)");
             }
             Wrong::Sentence(sentence, pair) => {
-                self.print(&format!("demand 3 does not hold: {sentence}"));
-                let Pair {
-                    first,
-                    second,
-                    given,
-                } = &**pair;
-                println!("the first call:");
-                print_call(first);
-                print_given("given", &given[0]);
-                println!("the second call:");
-                print_call(second);
-                print_given("given", &given[1]);
+                self.both(&format!("demand 3 does not hold: {sentence}"), pair);
+            }
+            Wrong::FirstEdition(pair) => {
+                self.both("edition 1 reads order, grounded or preference", pair);
             }
         }
+    }
+
+    fn both(&self, what: &str, pair: &Pair) {
+        self.print(what);
+        println!("the first call:");
+        print_call(&pair.first);
+        print_given("given", &pair.given[0]);
+        println!("the second call:");
+        print_call(&pair.second);
+        print_given("given", &pair.given[1]);
     }
 }
 

@@ -2,18 +2,21 @@
 
 use super::colours::Colours;
 use super::compare::{Given, Listed};
+use super::editions::Editions;
 use super::generate::Call;
 use super::limits::Limits;
 use super::pairs::Sort;
+use super::reference::data::Answer;
 
-/// Every number is to be given so often, every sort of limit, colour and pair to be tried so often.
+/// Every number is to be given so often, every sort of limit, colour and edition to be tried so
+/// often, and every sort of pair.
 const LEAST: u64 = 100;
 const LEAST_PAIRS: u64 = 5000;
 
 /// What is asked of a run only if it has so many calls.
 pub const ASKED_FROM: u64 = 200_000;
 
-const REFUSALS: [u8; 5] = [0, 1, 2, 3, 4];
+const REFUSALS: [u8; 6] = [0, 1, 2, 3, 4, 5];
 const VERDICTS: [u8; 13] = [0, 10, 11, 12, 13, 14, 15, 16, 17, 18, 19, 20, 21];
 const LEAVES: [u8; 7] = [0, 31, 32, 33, 34, 35, 36];
 const LISTINGS: [u8; 6] = [0, 13, 14, 15, 16, 17];
@@ -22,12 +25,16 @@ const LISTINGS: [u8; 6] = [0, 13, 14, 15, 16, 17];
 #[derive(Default)]
 struct Pairs {
     all: u64,
+    second_edition: u64,
     mandatory: u64,
     freed: u64,
     passed: u64,
     passed_unknown: u64,
     passed_tlvs: u64,
     passed_cut: u64,
+    /// Pairs of edition 1 that differ in what only edition 2 reads.
+    unread: u64,
+    unread_with_choice: u64,
 }
 
 pub struct Report {
@@ -39,6 +46,7 @@ pub struct Report {
     without_room: u64,
     limits: Limits,
     colours: Colours,
+    editions: Editions,
     pairs: Pairs,
 }
 
@@ -53,6 +61,7 @@ impl Report {
             without_room: 0,
             limits: Limits::default(),
             colours: Colours::default(),
+            editions: Editions::default(),
             pairs: Pairs::default(),
         }
     }
@@ -73,6 +82,7 @@ impl Report {
         }
         self.limits.note(call, answer);
         self.colours.note(call, given);
+        self.editions.note(call, answer);
     }
 
     /// Notes a listing of the library: the number that it was refused with, or 0.
@@ -90,12 +100,19 @@ impl Report {
 
     pub fn pair(&mut self, sort: &Sort) {
         self.pairs.all += 1;
+        self.pairs.second_edition += u64::from(sort.second_edition);
         self.pairs.mandatory += u64::from(sort.mandatory);
         self.pairs.freed += u64::from(sort.freed);
         self.pairs.passed += u64::from(sort.passed);
         self.pairs.passed_unknown += u64::from(sort.passed_unknown);
         self.pairs.passed_tlvs += u64::from(sort.passed_tlvs);
         self.pairs.passed_cut += u64::from(sort.passed_cut);
+    }
+
+    /// Notes a pair of edition 1 that was answered so; there is a choice between two or more.
+    pub fn first_edition(&mut self, answer: &Answer) {
+        self.pairs.unread += 1;
+        self.pairs.unread_with_choice += u64::from(answer.count > 1);
     }
 
     /// Prints what was given how often.
@@ -111,22 +128,28 @@ impl Report {
         }
     }
 
-    /// How often each sort of limit and colour was tried.
+    /// How often each sort of limit, colour and edition was tried.
     fn sorts(&self) -> Vec<(&'static str, u64)> {
         let limits = self.limits.counts().into_iter();
-        limits.chain(self.colours.counts()).collect()
+        let colours = self.colours.counts();
+        let editions = self.editions.counts();
+        limits.chain(colours).chain(editions).collect()
     }
 
-    fn pair_sorts(&self) -> [(&'static str, u64); 7] {
+    fn pair_sorts(&self) -> [(&'static str, u64); 11] {
         let pairs = &self.pairs;
         [
             ("pairs of demand 3", pairs.all),
+            ("in edition 1", pairs.all - pairs.second_edition),
+            ("in edition 2", pairs.second_edition),
             ("with an unknown mandatory constraint", pairs.mandatory),
             ("with a candidate barred for that alone", pairs.freed),
             ("passing a container on", pairs.passed),
             ("passing unknown objects on", pairs.passed_unknown),
             ("passing TLVs on", pairs.passed_tlvs),
             ("equal once cut, with something to cut", pairs.passed_cut),
+            ("pairs of what edition 1 does not read", pairs.unread),
+            ("with two unbarred or more", pairs.unread_with_choice),
         ]
     }
 

@@ -1,13 +1,14 @@
 //! A run of many calls.
 
 use super::arguments::Arguments;
-use super::compare::ListingDifference;
+use super::compare::{Given, ListingDifference};
 use super::generate::{self, Call};
+use super::pairs::Wrong;
 use super::random::Random;
 use super::reference::LISTING_ROOM;
 use super::replay::Place;
 use super::report::{Report, ASKED_FROM};
-use super::{compare, pairs};
+use super::{compare, first_edition, pairs};
 
 /// A run stops after so many differences.
 const MOST_DIFFERENCES: usize = 5;
@@ -17,6 +18,7 @@ const CALL: u64 = 0;
 const GUARDS: u64 = 1;
 const LISTING: u64 = 2;
 const PAIR: u64 = 3;
+const UNREAD: u64 = 4;
 
 /// Says which call was tried, should the program panic in it.
 struct Trying<'a>(&'a Place);
@@ -61,7 +63,7 @@ pub fn run(arguments: &Arguments) -> bool {
     differences == 0 && too_seldom.is_empty()
 }
 
-/// Tries one call, the listings of its containers and its pair, up to the first difference, which
+/// Tries one call, the listings of its containers and its pairs, up to the first difference, which
 /// is printed; tells whether there was none.
 fn one(place: &Place, report: &mut Report) -> bool {
     let _trying = Trying(place);
@@ -79,15 +81,27 @@ fn one(place: &Place, report: &mut Report) -> bool {
         place.listing(&difference);
         return false;
     }
-    match pairs::check(&mut stream(PAIR), &call, &given) {
-        Ok(Some(sort)) => report.pair(&sort),
-        Ok(None) => {}
-        Err(wrong) => {
-            place.pair(&wrong);
-            return false;
-        }
+    if let Err(wrong) = beside(stream, &call, &given, report) {
+        place.pair(&wrong);
+        return false;
     }
     true
+}
+
+/// Tries the pairs that a call is the first of: demand 3's, and what edition 1 does not read.
+fn beside(
+    stream: impl Fn(u64) -> Random,
+    call: &Call,
+    given: &Given,
+    report: &mut Report,
+) -> Result<(), Wrong> {
+    if let Some(sort) = pairs::check(&mut stream(PAIR), call, given)? {
+        report.pair(&sort);
+    }
+    if first_edition::check(&mut stream(UNREAD), call, given)? {
+        report.first_edition(&given.answer);
+    }
+    Ok(())
 }
 
 /// Lists the call's containers, and one part of the lent run that need not be a container.

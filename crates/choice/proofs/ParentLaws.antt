@@ -7,7 +7,7 @@ use mathlib.Core.List.{List}
 use mathlib.Core.Option.{some}
 use lib.ListN.{length, getD, getElem?, take, drop, length-take, take-append-drop}
 use borrow.Author.Tests.{le-ltb, ltb-false}
-use Rattle.model.specs.declared.Rank.{Rank}
+use Rattle.model.specs.declared.Offer.{Offer}
 use Rattle.model.specs.declared.Own.{Own}
 use Rattle.model.specs.declared.Neighbour.{Neighbour}
 use Rattle.model.specs.declared.Candidate.{Candidate}
@@ -29,7 +29,7 @@ sends-read : (own : Own) (c : Neighbour) (bs : List ℕ) (room : ℕ) (os : List
 unfolding sends
 sends-read own c bs room os e t l k s m = rw (le-ltb 3 (own .nodetype) t, le-ltb 7 (c .lql) l, le-ltb 1023 (c .colour) k, le-ltb 257 (length bs) s, le-ltb room 257 m, e, reading-objects bs os e .objects)
 
-module _ (own : Own) (cs : List Candidate) (lent : List ℕ) (n : ℕ) (d : Candidate) (p : ℕ) (r : Rank) (e : choiceOf own (take n cs) lent ≡ Parent p r) where
+module _ (own : Own) (cs : List Candidate) (lent : List ℕ) (n : ℕ) (d : Candidate) (p : ℕ) (r : Offer) (e : choiceOf own (take n cs) lent ≡ Parent p r) where
   -- the parent at its position in the array
   pub record ParentAt : Type 0 where
     pub stands : getElem? (take n cs) p ≡ some (getD cs p d)
@@ -56,5 +56,5 @@ module _ (own : Own) (cs : List Candidate) (lent : List ℕ) (n : ℕ) (d : Cand
   parent-sends room t m b =
       let x = parent-at in
       let a = x .admits in
-      let (i, j, q, k) = in-range (getD cs p d .neighbour) (a .inRange) in
+      let (i, j, q, k) = in-range own (getD cs p d .neighbour) (a .inRange) in
       rw (x .stands) (sends-read own (getD cs p d .neighbour) (containerOf lent (getD cs p d)) room (a .objects) (a .read) t q k (container-short lent (getD cs p d) (a .objects) (a .read) b) m)

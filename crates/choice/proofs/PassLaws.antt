@@ -10,7 +10,7 @@ use lib.Seq.{take-suc, length-take-le}
 use lib.Bits.{bitOr, or-shifted-r}
 use Rattle.model.specs.declared.Own.{Own}
 use Rattle.model.specs.declared.Candidate.{Candidate}
-use Rattle.model.specs.declared.Rank.{Rank}
+use Rattle.model.specs.declared.Offer.{Offer}
 use Rattle.model.specs.declared.Verdict.{Verdict}
 use Rattle.model.specs.declared.Verdict.the-variants.{Unbarred, Barred}
 use Rattle.model.specs.declared.Choice.{Choice}
@@ -99,7 +99,7 @@ module _ {own : Own} {lent : List ℕ} {cs : List Candidate} {count i : ℕ} (d 
   pass-barred e = rw (e, zero-mul (2 ^ i), add-zero bits) at pass-more
 
   -- one that is not: its place is none already
-  pub pass-unbarred : {r : Rank} {w : ℕ} {b : Choice} → v ≡ Unbarred r → w ≡ 2 ^ i → b ≡ afterVerdict (currentOf own) best i (Unbarred r)
+  pub pass-unbarred : {r : Offer} {w : ℕ} {b : Choice} → v ≡ Unbarred r → w ≡ 2 ^ i → b ≡ afterVerdict (currentOf own) best i (Unbarred r)
       → Pass own lent cs count (i + 1) (set numbers i 10) places (bitOr bits w) b
   pass-unbarred e ew eb =
       let l : length (take i cs) ≡ i = length-take-le i cs (omega (arith, pass .array, pass .few)) in

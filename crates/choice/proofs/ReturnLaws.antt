@@ -5,7 +5,7 @@ use native.Mathlib.Nat.{add-sub-cancel-left}
 use native.Mathlib.Omega.{arith}
 use mathlib.Core.List.{List}
 use lib.ListN.{length, getD, take, drop}
-use Rattle.model.specs.declared.Rank.{Rank}
+use Rattle.model.specs.declared.Offer.{Offer}
 use Rattle.model.specs.declared.Own.{Own}
 use Rattle.model.specs.declared.Candidate.{Candidate}
 use Rattle.model.specs.declared.Choice.{Choice}
@@ -66,18 +66,18 @@ module _ (own : Own) (cs : List Candidate) (n : ℕ) (lent out : List ℕ) where
     unfolding outgoing
     nobody-returns b a = rw a (answered-returns Nobody b _ refl)
 
-    module _ (d : Candidate) (p : ℕ) (rank : Rank) (byte : getD lent (getD cs p d .start + 1) 0 ≤ 255) where
-      pub parent-returns : {r : Answer} {s : Sent} {left : List ℕ} → best ≡ Parent p rank
+    module _ (d : Candidate) (p : ℕ) (offer : Offer) (byte : getD lent (getD cs p d .start + 1) 0 ≤ 255) where
+      pub parent-returns : {r : Answer} {s : Sent} {left : List ℕ} → best ≡ Parent p offer
           → (let c = getD cs p d in let o = sends own (c .neighbour) (take (c .start + c .size - c .start) (drop (c .start) lent)) (length out) in
           (s ≡ sentOf o) × (left ≡ outputOf o out))
-          → r ≡ answerWith p rank numbers places bits s
+          → r ≡ answerWith p (offer .rank) numbers places bits s
           → Returns r left
       parent-returns b (x, y) a =
           let c = getD cs p d in
           let u = runs e z in
-          let f : sends own (c .neighbour) (take (c .start + c .size - c .start) (drop (c .start) lent)) (length out) ≡ outgoing own (take n cs) lent (Parent p rank) =
-          rw (add-sub-cancel-left (c .start) (c .size)) (parent-sends own cs lent n d p rank (sym (g .chosen) ∙ b) (length out) (u .knownType) (u .room) byte) in
-          rw (a, x, y) (answered-returns (Parent p rank) b _ f)
+          let f : sends own (c .neighbour) (take (c .start + c .size - c .start) (drop (c .start) lent)) (length out) ≡ outgoing own (take n cs) lent (Parent p offer) =
+          rw (add-sub-cancel-left (c .start) (c .size)) (parent-sends own cs lent n d p offer (sym (g .chosen) ∙ b) (length out) (u .knownType) (u .room) byte) in
+          rw (a, x, y) (answered-returns (Parent p offer) b _ f)
 
 -- both parts of the contract, and what demand 3 asks of them
 pub as-returned : {own : Own} {cs : List Candidate} {n : ℕ} {lent out : List ℕ} {r : Answer} {left : List ℕ} → Returns own cs n lent out r left

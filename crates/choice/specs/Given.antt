@@ -20,6 +20,8 @@ blank = record {
     latency = 0;
     throughput = 0;
     colour = 0;
+    order = 0;
+    preference = 0;
   };
   start = 0;
   size = 0;

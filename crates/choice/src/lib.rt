@@ -41,23 +41,23 @@ pub fn call(
                 places[i] = place;
                 i += 1;
             }
-            Verdict::Unbarred(rank) => {
+            Verdict::Unbarred(offer) => {
                 numbers[i] = 10;
                 bits = bits | answers::bit_at(i);
-                best = preference::better(own, best, i as u8, rank);
+                best = preference::better(own, best, i as u8, offer);
                 i += 1;
             }
         }
     }
     match best {
         Choice::Nobody => answers::without_parent(numbers, places, bits),
-        Choice::Parent { position, rank } => {
+        Choice::Parent { position, offer } => {
             let at = position as usize;
             let c = candidates[at];
             let start = c.start;
             let end = start + c.size;
             let sent = hop::send(own, c.neighbour, &lent[start..end], out);
-            answers::answered(position, rank, numbers, places, bits, sent)
+            answers::answered(position, offer.rank, numbers, places, bits, sent)
         }
     }
 }

@@ -3,8 +3,8 @@ ghost use mathlib.Core.Path.{_≡_};
 ghost use Rattle.model.specs.declared.Verdict.the-variants.{Unbarred};
 ghost use Rattle.model.specs.Choice.{currentOf, notCurrent, criteria, precedes, afterVerdict};
 use model::Choice;
+use model::Offer;
 use model::Own;
-use model::Rank;
 
 // 0 for the current parent, 1 for any other.
 fn not_current(own: Own, position: u8) -> u8
@@ -16,12 +16,16 @@ fn not_current(own: Own, position: u8) -> u8
     1
 }
 
-// Whether an unbarred candidate comes before another: by the lower rank, then as the current parent, then by the lower position.
-fn comes_before(own: Own, position: u8, rank: Rank, other: u8, than: Rank) -> bool
-    ensures { λ r. ⌜ r ≡ precedes (criteria (currentOf own) position rank) (criteria (currentOf own) other than) ⌝ }
+// Whether an unbarred candidate comes before another: by what comes before the rank, then by the lower rank, then as the current parent,
+// then by the lower position.
+fn comes_before(own: Own, position: u8, offer: Offer, other: u8, than: Offer) -> bool
+    ensures { λ r. ⌜ r ≡ precedes (criteria (currentOf own) position offer) (criteria (currentOf own) other than) ⌝ }
 {
-    if rank.0 != than.0 {
-        return rank.0 < than.0;
+    if offer.ahead != than.ahead {
+        return offer.ahead < than.ahead;
+    }
+    if offer.rank.0 != than.rank.0 {
+        return offer.rank.0 < than.rank.0;
     }
     let a = not_current(own, position);
     let b = not_current(own, other);
@@ -32,17 +36,17 @@ fn comes_before(own: Own, position: u8, rank: Rank, other: u8, than: Rank) -> bo
 }
 
 // The best candidate so far, with one more that is unbarred.
-pub(crate) fn better(own: Own, best: Choice, position: u8, rank: Rank) -> Choice
-    ensures { λ r. ⌜ r ≡ afterVerdict (currentOf own) best position (Unbarred rank) ⌝ }
+pub(crate) fn better(own: Own, best: Choice, position: u8, offer: Offer) -> Choice
+    ensures { λ r. ⌜ r ≡ afterVerdict (currentOf own) best position (Unbarred offer) ⌝ }
 {
     match best {
-        Choice::Nobody => Choice::Parent { position, rank },
+        Choice::Nobody => Choice::Parent { position, offer },
         Choice::Parent {
             position: other,
-            rank: than,
+            offer: than,
         } => {
-            if comes_before(own, position, rank, other, than) {
-                return Choice::Parent { position, rank };
+            if comes_before(own, position, offer, other, than) {
+                return Choice::Parent { position, offer };
             }
             best
         }

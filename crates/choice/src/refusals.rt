@@ -1,6 +1,6 @@
 // Whole-call refusals.
 ghost use mathlib.Core.Path.{_≡_};
-ghost use Rattle.model.specs.Choice.{badOwn, currentPast, refusal};
+ghost use Rattle.model.specs.Choice.{badOwn, currentPast, badEdition, refusal};
 use model::Own;
 
 // Refusal 1.
@@ -15,6 +15,13 @@ fn is_past(own: Own, count: usize) -> bool
     ensures { λ r. ⌜ r ≡ currentPast own count ⌝ }
 {
     (own.flags / 16 % 2 == 1) & (count <= own.current)
+}
+
+// Refusal 5.
+fn is_bad_edition(own: Own) -> bool
+    ensures { λ r. ⌜ r ≡ badEdition own ⌝ }
+{
+    !((own.edition == 1) | (own.edition == 2))
 }
 
 // The number of the first refusal that holds; 0 for none.
@@ -32,6 +39,9 @@ pub(crate) fn refusal_of(own: Own, count: usize, room: usize) -> u8
     }
     if room < 257 {
         return 4;
+    }
+    if is_bad_edition(own) {
+        return 5;
     }
     0
 }

@@ -15,7 +15,7 @@ use model::Rank;
 
 // A flag's bit where its word was given.
 fn flag(given: u64, k: usize, bit: u8) -> u8
-    requires { ⌜ k < 22 ⌝ }
+    requires { ⌜ k < 26 ⌝ }
 {
     if settings::has(given, k) {
         return bit;
@@ -38,6 +38,15 @@ fn neighbour_flags(given: u64) -> u8 {
         | flag(given, names::ETX, 0x08)
         | flag(given, names::LATENCY, 0x10)
         | flag(given, names::THROUGHPUT, 0x20)
+        | flag(given, names::GROUNDED, 0x40)
+}
+
+// The edition: 1 where none is named, as files have it that were written before there were two.
+fn edition_of(rows: &Rows) -> u8 {
+    if settings::has(rows[settings::GIVEN], names::EDITION) {
+        return (rows[names::EDITION] % 256) as u8;
+    }
+    1
 }
 
 // The numbers of a row are within their limits, so that a remainder is the number.
@@ -49,13 +58,14 @@ fn own_of(rows: &Rows) -> Own {
         nodetype: (rows[names::TYPE] % 256) as u8,
         flags: own_flags(rows[settings::GIVEN]),
         energy: (rows[names::ENERGY] % 256) as u8,
+        edition: edition_of(rows),
         current: rows[names::CURRENT] as usize,
     }
 }
 
 // The neighbour whose row begins at an index.
 fn neighbour_of(rows: &Rows, at: usize) -> Neighbour
-    requires { ⌜ at ≤ 304 ⌝ }
+    requires { ⌜ at ≤ 352 ⌝ }
 {
     Neighbour {
         rank: Rank((rows[at + names::RANK] % 65536) as u16),
@@ -70,11 +80,13 @@ fn neighbour_of(rows: &Rows, at: usize) -> Neighbour
         latency: (rows[at + names::LATENCY] % 4294967296) as u32,
         throughput: (rows[at + names::THROUGHPUT] % 4294967296) as u32,
         colour: (rows[at + names::COLOUR] % 65536) as u16,
+        order: (rows[at + names::ORDER] % 256) as u8,
+        preference: (rows[at + names::PREFERENCE] % 256) as u8,
     }
 }
 
 fn candidate_of(rows: &Rows, at: usize) -> Candidate
-    requires { ⌜ at ≤ 304 ⌝ }
+    requires { ⌜ at ≤ 352 ⌝ }
 {
     Candidate {
         neighbour: neighbour_of(rows, at),
@@ -90,7 +102,7 @@ fn candidates_of(rows: &Rows, count: usize) -> [Candidate; 16]
     let mut list = [candidate_of(rows, 0); 16];
     let mut i = 0;
     while i < count {
-        list[i] = candidate_of(rows, i * 19 + 19);
+        list[i] = candidate_of(rows, i * 22 + 22);
         i += 1;
     }
     list

@@ -103,7 +103,7 @@ fn main() {
     let mut input = io::large_buffer();
     let mut lent = io::large_buffer();
     let mut out = io::large_buffer();
-    let mut rows = [0u64; 323];
+    let mut rows = [0u64; 374];
     let mut s = state::first();
     let mut kept = 0;
     // a bound for the loop, which no input reaches

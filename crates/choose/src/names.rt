@@ -1,7 +1,7 @@
 // The words of the input.
 ghost use Prim.Native.Nat.{_<_, _≤_};
 
-// A word is told by its place in the table of names. The first 18 have a number behind them; container and lent have bytes.
+// A word is told by its place in the table of names. The first 21 have a number behind them; container and lent have bytes.
 pub const MINHOP: usize = 0;
 
 pub const MAXINCREASE: usize = 1;
@@ -34,27 +34,35 @@ pub const THROUGHPUT: usize = 14;
 
 pub const COLOUR: usize = 15;
 
-pub const START: usize = 16;
+pub const ORDER: usize = 16;
 
-pub const SIZE: usize = 17;
+pub const PREFERENCE: usize = 17;
 
-pub const CONTAINER: usize = 18;
+pub const EDITION: usize = 18;
 
-pub const LENT: usize = 19;
+pub const START: usize = 19;
 
-pub const AGGREGATOR: usize = 20;
+pub const SIZE: usize = 20;
 
-pub const OVERLOADED: usize = 21;
+pub const CONTAINER: usize = 21;
 
-pub const CANDIDATE: usize = 22;
+pub const LENT: usize = 22;
 
-pub const CALL: usize = 23;
+pub const AGGREGATOR: usize = 23;
+
+pub const OVERLOADED: usize = 24;
+
+pub const GROUNDED: usize = 25;
+
+pub const CANDIDATE: usize = 26;
+
+pub const CALL: usize = 27;
 
 // Any other word.
-pub const NONE: usize = 24;
+pub const NONE: usize = 28;
 
 // Each name in 12 bytes, so that a space stands behind the longest.
-const NAMES: [u8; 288] = *b"\
+const NAMES: [u8; 336] = *b"\
     minhop      \
     maxincrease \
     rank        \
@@ -71,19 +79,23 @@ const NAMES: [u8; 288] = *b"\
     latency     \
     throughput  \
     colour      \
+    order       \
+    preference  \
+    edition     \
     start       \
     size        \
     container   \
     lent        \
     aggregator  \
     overloaded  \
+    grounded    \
     candidate   \
     call        \
     ";
 
 // A byte of a name.
 pub(crate) fn letter(k: usize, i: usize) -> u8
-    requires { ⌜ k < 24 ⌝ }
+    requires { ⌜ k < 28 ⌝ }
     requires { ⌜ i < 12 ⌝ }
 {
     NAMES[k * 12 + i]
@@ -99,7 +111,7 @@ fn padded(word: &[u8], i: usize) -> u8 {
 
 // Whether a word is a name. No word has a space in it, so one of 12 bytes or more is none.
 pub(crate) fn is(word: &[u8], k: usize) -> bool
-    requires { ⌜ k < 24 ⌝ }
+    requires { ⌜ k < 28 ⌝ }
 {
     let mut i = 0;
     while i < 12 {
@@ -113,10 +125,10 @@ pub(crate) fn is(word: &[u8], k: usize) -> bool
 
 // Which name a word is.
 pub fn look_up(word: &[u8]) -> usize
-    ensures { λ r. ⌜ r ≤ 24 ⌝ }
+    ensures { λ r. ⌜ r ≤ 28 ⌝ }
 {
     let mut k = 0;
-    while k < 24 {
+    while k < 28 {
         if is(word, k) {
             return k;
         }

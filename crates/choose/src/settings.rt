@@ -13,8 +13,8 @@ use words::Decimal;
 use words::HexByte;
 
 // The limits of minhop, maxincrease, rank, sp, rf, sr, type, lql, lowest, energy, current, room, etx, latency, throughput, colour,
-// start and size.
-const LIMITS: [u64; 18] = [
+// order, preference, edition, start and size.
+const LIMITS: [u64; 21] = [
     65535,
     65535,
     65535,
@@ -31,6 +31,9 @@ const LIMITS: [u64; 18] = [
     4294967295,
     4294967295,
     65535,
+    255,
+    255,
+    255,
     state::MOST,
     state::MOST,
 ];
@@ -43,6 +46,7 @@ const OF_CALL: u64 = (1 << names::MINHOP)
     | (1 << names::ENERGY)
     | (1 << names::CURRENT)
     | (1 << names::ROOM)
+    | (1 << names::EDITION)
     | (1 << names::LENT)
     | (1 << names::AGGREGATOR)
     | (1 << names::OVERLOADED);
@@ -58,14 +62,17 @@ const OF_CANDIDATE: u64 = (1 << names::RANK)
     | (1 << names::LATENCY)
     | (1 << names::THROUGHPUT)
     | (1 << names::COLOUR)
+    | (1 << names::ORDER)
+    | (1 << names::PREFERENCE)
     | (1 << names::START)
     | (1 << names::SIZE)
     | (1 << names::CONTAINER)
     | (1 << names::AGGREGATOR)
-    | (1 << names::OVERLOADED);
+    | (1 << names::OVERLOADED)
+    | (1 << names::GROUNDED);
 
 // The column of a row for the words that were given.
-pub const GIVEN: usize = 18;
+pub const GIVEN: usize = 21;
 
 // A place on a line, and what is known there.
 pub struct Next {
@@ -94,7 +101,7 @@ pub(crate) fn stop(end: usize, s: State, out: &mut Buffer, what: Fault, k: usize
 
 // Whether a word is among some, by their bits.
 pub(crate) fn has(words: u64, k: usize) -> bool
-    requires { ⌜ k < 22 ⌝ }
+    requires { ⌜ k < 26 ⌝ }
 {
     (words >> k) % 2 == 1
 }
@@ -102,7 +109,7 @@ pub(crate) fn has(words: u64, k: usize) -> bool
 // With a word that is given now.
 fn with(s: State, k: usize) -> State
     requires { ⌜ Sound s ⌝ }
-    requires { ⌜ k < 22 ⌝ }
+    requires { ⌜ k < 26 ⌝ }
     ensures { λ r. ⌜ Sound r ⌝ }
 {
     let mut t = s;
@@ -120,7 +127,7 @@ fn both_ways(given: u64, k: usize) -> bool {
 
 // Fails where a word does not belong to its place, or was given already.
 fn admit(s: State, out: &mut Buffer, k: usize) -> State
-    requires { ⌜ k < 22 ⌝ }
+    requires { ⌜ k < 26 ⌝ }
     requires { ⌜ Sound s ⌝ }
     ensures { λ r. ⌜ Sound r ⌝ }
 {
@@ -142,7 +149,7 @@ fn admit(s: State, out: &mut Buffer, k: usize) -> State
 // The number behind a word, which ends at an index.
 fn number(line: &[u8], end: usize, k: usize, s: State, rows: &mut Rows, out: &mut Buffer) -> Next
     requires { ⌜ end ≤ length (now line) ⌝ }
-    requires { ⌜ k < 18 ⌝ }
+    requires { ⌜ k < 21 ⌝ }
     requires { ⌜ Sound s ⌝ }
     ensures { λ r. ⌜ (end ≤ r .at) × ((r .at ≤ length (now (line .entry))) × Sound (r .state)) ⌝ }
 {
@@ -153,7 +160,7 @@ fn number(line: &[u8], end: usize, k: usize, s: State, rows: &mut Rows, out: &mu
             if LIMITS[k] < n {
                 return stop(end, s, out, Fault::TooLarge(LIMITS[k]), k);
             }
-            rows[s.count * 19 + k] = n;
+            rows[s.count * 22 + k] = n;
             let given = with(s, k);
             Next {
                 at: to,
@@ -208,7 +215,7 @@ fn bytes(
     out: &mut Buffer,
 ) -> Next
     requires { ⌜ end ≤ length (now line) ⌝ }
-    requires { ⌜ k < 22 ⌝ }
+    requires { ⌜ k < 26 ⌝ }
     requires { ⌜ Sound s ⌝ }
     ensures { λ r. ⌜ (end ≤ r .at) × ((r .at ≤ length (now (line .entry))) × Sound (r .state)) ⌝ }
 {
@@ -216,7 +223,7 @@ fn bytes(
         HexRun::Lent(n) => {
             let mut t = s;
             if k == names::CONTAINER {
-                let row = s.count * 19;
+                let row = s.count * 22;
                 rows[row + names::START] = s.used as u64;
                 rows[row + names::SIZE] = (n - s.used) as u64;
                 t = with(s, k);
@@ -243,7 +250,7 @@ pub(crate) fn take(
     out: &mut Buffer,
 ) -> Next
     requires { ⌜ end ≤ length (now line) ⌝ }
-    requires { ⌜ k < 22 ⌝ }
+    requires { ⌜ k < 26 ⌝ }
     requires { ⌜ Sound s ⌝ }
     ensures { λ r. ⌜ (end ≤ r .at) × ((r .at ≤ length (now (line .entry))) × Sound (r .state)) ⌝ }
 {

@@ -16,9 +16,9 @@ pub const SKIPPED: u8 = 3;
 // The largest number.
 pub const MOST: u64 = 18446744073709551615;
 
-// The row of `call`, and one of each candidate: the number behind each of the first 18 words, then the bits of the words that were
+// The row of `call`, and one of each candidate: the number behind each of the first 21 words, then the bits of the words that were
 // given.
-pub type Rows = [u64; 323];
+pub type Rows = [u64; 374];
 
 // The place in the input, and what the call has so far.
 pub struct State {

@@ -15,8 +15,9 @@ table =
     (2, "more than 16 candidates") ∷
     (3, "the current parent's position is not below the number of candidates") ∷
     (4, "the output is shorter than 257 bytes") ∷
+    (5, "the edition is not 1 or 2") ∷
     (10, "unbarred") ∷
-    (11, "Sp not 1 to 9, Rf not 1 to 4, Sr above 5, LQL above 7, type above 3, or colour above 1023") ∷
+    (11, "Sp, Rf, Sr, LQL, type or colour out of range; in edition 2 also interface order or root preference") ∷
     (12, "the container is not inside the lent bytes") ∷
     (13, "the container is under 2 bytes, does not start with 2, or its data length is wrong") ∷
     (14, "an object's header or body runs past the end of the container") ∷

@@ -9,14 +9,15 @@ ghost use Rattle.meaning.specs.Table.{wordsBefore};
 pub const MEANING_ROOM: usize = 100;
 
 // The words for 0, for 1 and so on, end to end; a number without a meaning has none.
-const WORDS: [u8; 1332] = *b"\
+const WORDS: [u8; 1366] = *b"\
     nothing to report: not refused, no leaf answer, or no candidate at this position\
     MinHopRankIncrease is 0, or the node's own type is above 3\
     more than 16 candidates\
     the current parent's position is not below the number of candidates\
     the output is shorter than 257 bytes\
+    the edition is not 1 or 2\
     unbarred\
-    Sp not 1 to 9, Rf not 1 to 4, Sr above 5, LQL above 7, type above 3, or colour above 1023\
+    Sp, Rf, Sr, LQL, type or colour out of range; in edition 2 also interface order or root preference\
     the container is not inside the lent bytes\
     the container is under 2 bytes, does not start with 2, or its data length is wrong\
     an object's header or body runs past the end of the container\
@@ -37,10 +38,10 @@ const WORDS: [u8; 1332] = *b"\
 
 // Where the words for each number begin, ten numbers to a line.
 const STARTS: [[u16; 10]; 4] = [
-    [0, 80, 138, 161, 228, 264, 264, 264, 264, 264],
-    [264, 272, 361, 403, 485, 546, 628, 703, 769, 807],
-    [840, 908, 986, 986, 986, 986, 986, 986, 986, 986],
-    [986, 986, 1022, 1082, 1168, 1196, 1259, 1332, 1332, 1332],
+    [0, 80, 138, 161, 228, 264, 289, 289, 289, 289],
+    [289, 297, 395, 437, 519, 580, 662, 737, 803, 841],
+    [874, 942, 1020, 1020, 1020, 1020, 1020, 1020, 1020, 1020],
+    [1020, 1020, 1056, 1116, 1202, 1230, 1293, 1366, 1366, 1366],
 ];
 
 // Where the words for a number begin among all words.
@@ -52,7 +53,7 @@ fn start_of(number: usize) -> usize
 }
 
 // All words: one copy for a call, where an index into the constant would make one each time.
-fn all_words() -> [u8; 1332]
+fn all_words() -> [u8; 1366]
     ensures { λ r. ⌜ r ≡ wordsBefore 37 ⌝ }
 {
     WORDS

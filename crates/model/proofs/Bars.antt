@@ -6,7 +6,7 @@ use mathlib.Core.Bool.{Bool, true, false, cond, false≢true, true≢false}
 use mathlib.Core.List.{List, [], _∷_, map}
 use mathlib.Core.Logic.{_↔_}
 use lib.Dec.{eqb}
-use Rattle.model.specs.declared.Rank.{Rank}
+use Rattle.model.specs.declared.Offer.{Offer}
 use Rattle.model.specs.declared.Own.{Own}
 use Rattle.model.specs.declared.Summary.{Summary}
 use Rattle.model.specs.declared.Neighbour.{Neighbour}
@@ -18,7 +18,7 @@ use Rattle.model.specs.Object.{Object, Standing, standings}
 use Rattle.model.specs.Reading.{noPlace, misframed, runsPast, malformed, repeated, misused, Reading, refused, wellFormed, reading}
 use Rattle.model.specs.Constraint.{summary, unknownMandatory, unmet, constraintCases, constraintBar}
 use Rattle.model.specs.Rank.{resulting, rankTooHigh, aboveLowest}
-use Rattle.model.specs.Verdict.{outOfRange, containerOf, outside, rankCases, rankBar, judgeRank, judgeObjects, judgeReading, verdict, numberOf}
+use Rattle.model.specs.Verdict.{offerOf, badNumbers, containerOf, outside, rankCases, rankBar, judgeRank, judgeObjects, judgeReading, verdict, numberOf}
 use Rattle.model.proofs.BoolLaws.{neither}
 use Rattle.model.proofs.NumberLaws.{none-both, none-parts, exact, exact-none, isGiven, given-case, given-none, firstOf-all, given-firstOf, first-with}
 use Rattle.model.specs.Conditions.{someHas, objectsIn, objectBars, constraintBars, barsTo17, barsTo19}
@@ -169,55 +169,55 @@ module _ (own : Own) (lent : List ℕ) (c : Candidate) where
   abbrev sum : Summary
   sum = summary os
 
-  verdict-stages : verdict own lent c ≡ bars11and12 (outOfRange n) (outside lent c) (judgeReading own n (reading bs))
+  verdict-stages : verdict own lent c ≡ bars11and12 (badNumbers own n) (outside lent c) (judgeReading own n (reading bs))
   unfolding verdict
   verdict-stages = refl
 
   abbrev cases : List Case
-  cases = casesOf (outOfRange n) (outside lent c) (isRefused (reading bs)) (isGiven (constraintNumber n (reading bs))) (isGiven (rankBar own n))
+  cases = casesOf (badNumbers own n) (outside lent c) (isRefused (reading bs)) (isGiven (constraintNumber n (reading bs))) (isGiven (rankBar own n))
 
   decided : stageOf (numberOf (verdict own lent c)) ≡ firstCase cases
-  decided = ap (λ v. stageOf (numberOf v)) verdict-stages ∙ stage-number own n (outOfRange n) (outside lent c) (reading bs) (read-view bs)
+  decided = ap (λ v. stageOf (numberOf v)) verdict-stages ∙ stage-number own n (badNumbers own n) (outside lent c) (reading bs) (read-view bs)
 
   -- a verdict's number gives the case that decided it
   by-case : (v : Verdict) (g : ℕ) → stageOf (numberOf v) ≡ g → verdict own lent c ≡ v → firstCase cases ≡ g
   by-case v g h e = sym decided ∙ ap (λ w. stageOf (numberOf w)) e ∙ h
 
   -- what is left of the verdict past bar 12, past 17 and past 19
-  past12 : NoneOf (outOfRange n ∷ outside lent c ∷ []) → verdict own lent c ≡ judgeReading own n (reading bs)
-  past12 h = verdict-stages ∙ past-12 (outOfRange n) (outside lent c) (judgeReading own n (reading bs)) h
+  past12 : NoneOf (badNumbers own n ∷ outside lent c ∷ []) → verdict own lent c ≡ judgeReading own n (reading bs)
+  past12 h = verdict-stages ∙ past-12 (badNumbers own n) (outside lent c) (judgeReading own n (reading bs)) h
 
   abbrev read17 : List Bool
   read17 = misframed bs ∷ runsPast bs ∷ someHas objectBars (standings [] os) ∷ []
 
-  past17 : NoneOf (barsTo17 lent c) → verdict own lent c ≡ afterConstraints own n (firstOf (constraintBar n sum) os) (indexOf (constraintBar n sum) os) (rankBar own n)
+  past17 : NoneOf (barsTo17 own lent c) → verdict own lent c ≡ afterConstraints own n (firstOf (constraintBar n sum) os) (indexOf (constraintBar n sum) os) (rankBar own n)
   past17 h =
-      let (p, q) = none-parts (outOfRange n ∷ outside lent c ∷ []) read17 h in
+      let (p, q) = none-parts (badNumbers own n ∷ outside lent c ∷ []) read17 h in
       past12 p ∙ rw (reading-exact bs .well-formed os .1 (q, refl)) (constraints-stage own n (firstOf (constraintBar n sum) os) (indexOf (constraintBar n sum) os))
 
   constraints-given : isGiven (firstOf (constraintBar n sum) os) ≡ someHas (constraintBars n sum) os
   constraints-given = given-firstOf (constraintBar n sum) (λ o. anyOf (λ t. t o) (constraintBars n sum)) (constraint-given n sum) os
 
-  past19 : NoneOf (barsTo19 lent c) → verdict own lent c ≡ judgeRank own n (rankBar own n)
+  past19 : NoneOf (barsTo19 own lent c) → verdict own lent c ≡ judgeRank own n (rankBar own n)
   past19 h =
-      let (p, q) = none-parts (barsTo17 lent c) (someHas (constraintBars n sum) os ∷ []) h in
+      let (p, q) = none-parts (barsTo17 own lent c) (someHas (constraintBars n sum) os ∷ []) h in
       let z = given-none (firstOf (constraintBar n sum) os) (constraints-given ∙ neither (someHas (constraintBars n sum) os) false q .0) in
       past17 p ∙ rw z
 
   -- a container that is not refused is read as its objects
-  read-objects : NoneOf (outOfRange n ∷ outside lent c ∷ isRefused (reading bs) ∷ []) → NoneOf (barsTo17 lent c) × (reading bs ≡ wellFormed os)
+  read-objects : NoneOf (badNumbers own n ∷ outside lent c ∷ isRefused (reading bs) ∷ []) → NoneOf (barsTo17 own lent c) × (reading bs ≡ wellFormed os)
   read-objects h =
-      let (p, q) = none-parts (outOfRange n ∷ outside lent c ∷ []) (isRefused (reading bs) ∷ []) h in
+      let (p, q) = none-parts (badNumbers own n ∷ outside lent c ∷ []) (isRefused (reading bs) ∷ []) h in
       go (reading bs) refl p (neither (isRefused (reading bs)) false q .0)
     where
-      go : (x : Reading) → reading bs ≡ x → NoneOf (outOfRange n ∷ outside lent c ∷ []) → isRefused x ≡ false → NoneOf (barsTo17 lent c) × (reading bs ≡ wellFormed os)
+      go : (x : Reading) → reading bs ≡ x → NoneOf (badNumbers own n ∷ outside lent c ∷ []) → isRefused x ≡ false → NoneOf (barsTo17 own lent c) × (reading bs ≡ wellFormed os)
       go (refused m i) e p g = absurd (true≢false g)
       go (wellFormed ts) e p g =
           let (f, s) = reading-exact bs .well-formed ts .0 e in
-          (none-both (outOfRange n ∷ outside lent c ∷ []) read17 p f, e ∙ ap wellFormed (sym s))
+          (none-both (badNumbers own n ∷ outside lent c ∷ []) read17 p f, e ∙ ap wellFormed (sym s))
 
   -- bars 13 to 17 are those of the reading
-  read-bar : (m place : ℕ) → stageOf m ≡ 13 → (verdict own lent c ≡ Barred m place) ↔ (NoneOf (outOfRange n ∷ outside lent c ∷ []) × (reading bs ≡ refused m place))
+  read-bar : (m place : ℕ) → stageOf m ≡ 13 → (verdict own lent c ≡ Barred m place) ↔ (NoneOf (badNumbers own n ∷ outside lent c ∷ []) × (reading bs ≡ refused m place))
   read-bar m place g = (
     λ e. let f = exact cases 2 refl .0 (by-case (Barred m place) 13 g e) in
         (f .0, reading-barred own n (reading bs) m place (f .1) (sym (past12 (f .0)) ∙ e)),
@@ -225,31 +225,31 @@ module _ (own : Own) (lent : List ℕ) (c : Candidate) where
   )
 
   -- bars 13 and 14, whatever the place
-  first-13 : (place : ℕ) → verdict own lent c ≡ Barred 13 place → FirstToHold (outOfRange n ∷ outside lent c ∷ []) (misframed bs)
+  first-13 : (place : ℕ) → verdict own lent c ≡ Barred 13 place → FirstToHold (badNumbers own n ∷ outside lent c ∷ []) (misframed bs)
   first-13 place e = let (x, y) = read-bar 13 place refl .0 e in (x, at-13 bs place y .1)
 
-  first-14 : (place : ℕ) → verdict own lent c ≡ Barred 14 place → FirstToHold (outOfRange n ∷ outside lent c ∷ misframed bs ∷ []) (runsPast bs)
+  first-14 : (place : ℕ) → verdict own lent c ≡ Barred 14 place → FirstToHold (badNumbers own n ∷ outside lent c ∷ misframed bs ∷ []) (runsPast bs)
   first-14 place e =
       let (x, y) = read-bar 14 place refl .0 e in
       let f = at-14 bs place y in
-      (none-both (outOfRange n ∷ outside lent c ∷ []) (misframed bs ∷ []) x (f .0), f .1)
+      (none-both (badNumbers own n ∷ outside lent c ∷ []) (misframed bs ∷ []) x (f .0), f .1)
 
   -- 15 to 17, at an object
   bar-at : (m : ℕ) (lower : List (Standing → Bool)) (bar : Standing → Bool) → stageOf m ≡ 13
       → ((place : ℕ) → (reading bs ≡ refused m place) ↔ ReadingAt bs lower bar place)
-      → (place : ℕ) → (verdict own lent c ≡ Barred m place) ↔ BarAt lent c lower bar place
+      → (place : ℕ) → (verdict own lent c ≡ Barred m place) ↔ BarAt own lent c lower bar place
   bar-at m lower bar g read place = (
     λ e. let (x, y) = read-bar m place g .0 e in
         let (f, w) = read place .0 y in
-        (none-both (outOfRange n ∷ outside lent c ∷ []) (misframed bs ∷ runsPast bs ∷ []) x f, w),
-    λ w. let (x, y) = none-parts (outOfRange n ∷ outside lent c ∷ []) (misframed bs ∷ runsPast bs ∷ []) (w .0) in
+        (none-both (badNumbers own n ∷ outside lent c ∷ []) (misframed bs ∷ runsPast bs ∷ []) x f, w),
+    λ w. let (x, y) = none-parts (badNumbers own n ∷ outside lent c ∷ []) (misframed bs ∷ runsPast bs ∷ []) (w .0) in
         read-bar m place g .1 (x, read place .1 (y, w .1)),
   )
 
   -- bars 18 and 19
   constraint-at : (m : ℕ) (lower : List (Object → Bool)) (bar : Object → Bool) → stageOf (suc m) ≡ 18
       → ((o : Object) → (constraintBar n sum o ≡ suc m) ↔ FirstToHold (map (λ t. t o) lower) (bar o))
-      → (place : ℕ) → (verdict own lent c ≡ Barred (suc m) place) ↔ ConstraintAt lent c lower bar place
+      → (place : ℕ) → (verdict own lent c ≡ Barred (suc m) place) ↔ ConstraintAt own lent c lower bar place
   constraint-at m lower bar g has place =
       let found = first-with (constraintBar n sum) os m (constraintBars n sum) lower bar has (constraint-none n sum) place in (
         λ e. let f = exact cases 3 refl .0 (by-case (Barred (suc m) place) 18 g e) in
@@ -259,28 +259,28 @@ module _ (own : Own) (lent : List ℕ) (c : Candidate) where
       )
 
   -- past 18 and 19: nothing of 11 to 19 holds
-  read-constraints : NoneOf (outOfRange n ∷ outside lent c ∷ isRefused (reading bs) ∷ isGiven (constraintNumber n (reading bs)) ∷ []) → NoneOf (barsTo19 lent c)
+  read-constraints : NoneOf (badNumbers own n ∷ outside lent c ∷ isRefused (reading bs) ∷ isGiven (constraintNumber n (reading bs)) ∷ []) → NoneOf (barsTo19 own lent c)
   read-constraints h =
-      let (p, q) = none-parts (outOfRange n ∷ outside lent c ∷ isRefused (reading bs) ∷ []) (isGiven (constraintNumber n (reading bs)) ∷ []) h in
+      let (p, q) = none-parts (badNumbers own n ∷ outside lent c ∷ isRefused (reading bs) ∷ []) (isGiven (constraintNumber n (reading bs)) ∷ []) h in
       let (x, y) = read-objects p in
       let k : isGiven (firstOf (constraintBar n sum) os) ≡ false = rw y at (neither (isGiven (constraintNumber n (reading bs))) false q .0) in
-      none-both (barsTo17 lent c) (someHas (constraintBars n sum) os ∷ []) x (rw (← constraints-given, k))
+      none-both (barsTo17 own lent c) (someHas (constraintBars n sum) os ∷ []) x (rw (← constraints-given, k))
 
   -- the number of bar 20 or 21 that was given
-  rank-given : (m place : ℕ) → stageOf m ≡ 20 → verdict own lent c ≡ Barred m place → NoneOf (barsTo19 lent c) × (rankBar own n ≡ m)
+  rank-given : (m place : ℕ) → stageOf m ≡ 20 → verdict own lent c ≡ Barred m place → NoneOf (barsTo19 own lent c) × (rankBar own n ≡ m)
   rank-given m place g e =
       let f = exact cases 4 refl .0 (by-case (Barred m place) 20 g e) in
       let x = read-constraints (f .0) in
       (x, rank-barred own n (rankBar own n) m place (f .1) (sym (past19 x) ∙ e))
 
   -- nothing bars
-  rank-free : firstCase cases ≡ 10 → NoneOf (barsTo19 lent c) × (rankBar own n ≡ 0)
+  rank-free : firstCase cases ≡ 10 → NoneOf (barsTo19 own lent c) × (rankBar own n ≡ 0)
   rank-free e =
       let f = exact cases 5 refl .0 e in
-      let (x, y) = none-parts (outOfRange n ∷ outside lent c ∷ isRefused (reading bs) ∷ isGiven (constraintNumber n (reading bs)) ∷ []) (isGiven (rankBar own n) ∷ []) (f .0) in
+      let (x, y) = none-parts (badNumbers own n ∷ outside lent c ∷ isRefused (reading bs) ∷ isGiven (constraintNumber n (reading bs)) ∷ []) (isGiven (rankBar own n) ∷ []) (f .0) in
       (read-constraints x, given-none (rankBar own n) (neither (isGiven (rankBar own n)) false y .0))
 
-  unbarred-is : (q : ℕ) (r : Rank) → q ≡ 0 → judgeRank own n q ≡ Unbarred r → r ≡ record { 0 = resulting own n }
+  unbarred-is : (q : ℕ) (r : Offer) → q ≡ 0 → judgeRank own n q ≡ Unbarred r → r ≡ offerOf own n
   unbarred-is zero r z e = cc
   unbarred-is (suc q) r z e = absurd (omega arith)
 
@@ -298,11 +298,11 @@ module _ (own : Own) (lent : List ℕ) (c : Candidate) where
       record {
         verdict-11 = (
           λ e. exact cases 0 refl .0 (by-case (Barred 11 noPlace) 11 refl e),
-          λ f. verdict-stages ∙ stage-11 (outOfRange n) (outside lent c) (judgeReading own n (reading bs)) f,
+          λ f. verdict-stages ∙ stage-11 (badNumbers own n) (outside lent c) (judgeReading own n (reading bs)) f,
         );
         verdict-12 = (
           λ e. exact cases 1 refl .0 (by-case (Barred 12 noPlace) 12 refl e),
-          λ f. verdict-stages ∙ stage-12 (outOfRange n) (outside lent c) (judgeReading own n (reading bs)) f,
+          λ f. verdict-stages ∙ stage-12 (badNumbers own n) (outside lent c) (judgeReading own n (reading bs)) f,
         );
         verdict-13 = (
           first-13 noPlace,
@@ -310,7 +310,7 @@ module _ (own : Own) (lent : List ℕ) (c : Candidate) where
         );
         verdict-14 = (
           first-14 noPlace,
-          λ f. let (x, y) = none-parts (outOfRange n ∷ outside lent c ∷ []) (misframed bs ∷ []) (f .0) in
+          λ f. let (x, y) = none-parts (badNumbers own n ∷ outside lent c ∷ []) (misframed bs ∷ []) (f .0) in
               read-bar 14 noPlace refl .1 (x, r .reading-14 .1 (y, f .1)),
         );
         verdict-15 = bar-at 15 [] malformed refl (r .reading-15);
@@ -325,14 +325,14 @@ module _ (own : Own) (lent : List ℕ) (c : Candidate) where
         verdict-21 = (
           λ e. let (f, q) = rank-given 21 noPlace refl e in
               let g = rank-21 own n .0 q in
-              (none-both (barsTo19 lent c) (rankTooHigh own n ∷ []) f (g .0), g .1),
-          λ f. let (x, y) = none-parts (barsTo19 lent c) (rankTooHigh own n ∷ []) (f .0) in
+              (none-both (barsTo19 own lent c) (rankTooHigh own n ∷ []) f (g .0), g .1),
+          λ f. let (x, y) = none-parts (barsTo19 own lent c) (rankTooHigh own n ∷ []) (f .0) in
               past19 x ∙ rw (rank-21 own n .1 (y, f .1)),
         );
         unbarred = λ t. (
           λ e. let (x, z) = rank-free (by-case (Unbarred t) 10 refl e) in
-              (none-both (barsTo19 lent c) (rankTooHigh own n ∷ aboveLowest own n ∷ []) x (rank-none own n .0 z), unbarred-is (rankBar own n) t z (sym (past19 x) ∙ e)),
-          λ f. let (x, y) = none-parts (barsTo19 lent c) (rankTooHigh own n ∷ aboveLowest own n ∷ []) (f .0) in
+              (none-both (barsTo19 own lent c) (rankTooHigh own n ∷ aboveLowest own n ∷ []) x (rank-none own n .0 z), unbarred-is (rankBar own n) t z (sym (past19 x) ∙ e)),
+          λ f. let (x, y) = none-parts (barsTo19 own lent c) (rankTooHigh own n ∷ aboveLowest own n ∷ []) (f .0) in
               past19 x ∙ rw (rank-none own n .1 y, f .1),
         );
       }
@@ -349,10 +349,10 @@ module _ (own : Own) (lent : List ℕ) (c : Candidate) where
       go (Unbarred r) q e = absurd (h (sym e))
       go (Barred k p) q e = (p, q ∙ rw e)
 
-  unbarred-at : numberOf (verdict own lent c) ≡ 10 → (r : Rank) × (verdict own lent c ≡ Unbarred r)
+  unbarred-at : numberOf (verdict own lent c) ≡ 10 → (r : Offer) × (verdict own lent c ≡ Unbarred r)
   unbarred-at e = go (verdict own lent c) refl e
     where
-      go : (v : Verdict) → verdict own lent c ≡ v → numberOf v ≡ 10 → (r : Rank) × (verdict own lent c ≡ Unbarred r)
+      go : (v : Verdict) → verdict own lent c ≡ v → numberOf v ≡ 10 → (r : Offer) × (verdict own lent c ≡ Unbarred r)
       go (Unbarred r) q e = (r, q)
       go (Barred k p) q e = absurd (never-10 p (q ∙ rw e))
 

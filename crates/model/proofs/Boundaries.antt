@@ -51,4 +51,9 @@ boundaries = record {
   constraintColours = refl;
   colourTexts = refl;
   cutColours = refl;
+  refusal5 = refl;
+  bar11Sites = refl;
+  bar11Order = refl;
+  eachCriterion = refl;
+  inEditions = refl;
 }

@@ -36,7 +36,7 @@ byte b h = le-ltb 255 b h
 both-bytes : (xs ys : List ℕ) → Bytes xs → Bytes ys → Bytes (xs ++ ys)
 both-bytes xs ys p q = any-append (λ b. ltb 255 b) xs ys ∙ rw (p, q)
 
-part-bytes : (xs ys : List ℕ) → Bytes (xs ++ ys) → Bytes xs × Bytes ys
+pub part-bytes : (xs ys : List ℕ) → Bytes (xs ++ ys) → Bytes xs × Bytes ys
 part-bytes xs ys h = neither (anyOf (λ b. ltb 255 b) xs) (anyOf (λ b. ltb 255 b) ys) (sym (any-append (λ b. ltb 255 b) xs ys) ∙ h)
 
 take-bytes : (n : ℕ) (xs : List ℕ) → Bytes xs → Bytes (take n xs)
@@ -262,7 +262,7 @@ passes-bytes own cs lent out h e p =
     let data′ = data-bytes _ (x .objects) (take-bytes (x .candidate .size) (drop (x .candidate .start) lent) (drop-bytes (x .candidate .start) lent h)) (r .whole) in
     let l = fits own n (x .objects) (sym (leaf-is own cs lent out (p .unrefused) x) ∙ p .noLeaf) in
     let t = unrefused own cs lent out (p .unrefused) .knownType in
-    let (i, j, q, k) = in-range n (a .inRange) in
+    let (i, j, q, k) = in-range own n (a .inRange) in
     rw (passed-is own cs lent out (p .unrefused) x (p .noLeaf))
     (more-bytes 2 (length (join (update own n (x .objects))) ∷ join (update own n (x .objects))) (omega arith)
     (more-bytes (length (join (update own n (x .objects)))) (join (update own n (x .objects))) l (objects-bytes own n e t q k (x .objects) data′ l)))

@@ -2,13 +2,13 @@
 use mathlib.Core.Path.{_≡_, refl, sym, _∙_}
 use Prim.Native.Nat.{ℕ, zero, suc, _≤_}
 use native.Mathlib.Omega.{arith}
-use mathlib.Core.Bool.{true, false, not}
+use mathlib.Core.Bool.{true, false, not, false≢true}
 use mathlib.Core.List.{List, _++_, map}
 use mathlib.Core.Option.{some}
 use lib.ListN.{length, getD, getElem?}
 use lib.Dec.{eqb}
 use borrow.Author.Tests.{ltb-false, eqb-false}
-use Rattle.model.specs.declared.Rank.{Rank}
+use Rattle.model.specs.declared.Offer.{Offer}
 use Rattle.model.specs.declared.Own.{Own}
 use Rattle.model.specs.declared.Candidate.{Candidate}
 use Rattle.model.specs.declared.Choice.{Choice}
@@ -41,7 +41,7 @@ unrefused own cs lent out e =
     let (a, x) = neither (badOwn own) _ h in
     let (b, y) = neither (tooMany (length cs)) _ x in
     let (c, z) = neither (currentPast own (length cs)) _ y in
-    let (d, w) = neither (shortOutput (length out)) false z in
+    let (d, w) = neither (shortOutput (length out)) _ z in
     let m = eqb-false (own .minhop) 0 (neither (eqb (own .minhop) 0) _ a .0) in
     record { grows = go (own .minhop) m; knownType = ltb-false 3 (own .nodetype) (neither (eqb (own .minhop) 0) _ a .1); few = ltb-false 16 (length cs) b; room = ltb-false (length out) 257 d }
   where
@@ -54,8 +54,8 @@ no-leaf zero bs e = refl
 no-leaf (suc n) bs e = e
 
 -- an answer that names a parent
-pub named : (b : Choice) → not (eqb (parentOf b) noParent) ≡ true → (p : ℕ) × (r : Rank) × (b ≡ Parent p r)
-named Nobody e = (0, record { 0 = 0 }, cc)
+pub named : (b : Choice) → not (eqb (parentOf b) noParent) ≡ true → (p : ℕ) × (r : Offer) × (b ≡ Parent p r)
+named Nobody e = absurd (false≢true e)
 named (Parent p r) e = (p, r, refl)
 
 -- whether a candidate is barred, by the number at its position

@@ -13,7 +13,7 @@ use lib.Pow.{shr-shr}
 use lib.Dec.{ltb, eqb}
 use borrow.Author.Tests.{lt-ltb, le-ltb, eq-eqb, ltb-true, ltb-false, eqb-true}
 use Rattle.model.specs.declared.Quantity.{Quantity}
-use Rattle.model.specs.declared.Rank.{Rank}
+use Rattle.model.specs.declared.Offer.{Offer}
 use Rattle.model.specs.declared.Verdict.{Verdict}
 use Rattle.model.specs.declared.Verdict.the-variants.{Unbarred, Barred}
 use Rattle.model.specs.declared.Choice.{Choice}
@@ -70,7 +70,7 @@ isParent Nobody = false
 isParent (Parent p r) = true
 
 -- an unbarred candidate at k with rank s does not precede the choice
-abbrev pub Preferred : Quantity → Choice → ℕ → Rank → Type 0
+abbrev pub Preferred : Quantity → Choice → ℕ → Offer → Type 0
 Preferred q Nobody k s = ⊥
 Preferred q (Parent p r) k s = precedes (criteria q k s) (criteria q p r) ≡ false
 
@@ -82,8 +82,8 @@ pass-on xs new old p q = go (precedes xs new) refl
     go true e = sym (precedes-trans xs new old e p) ∙ q
     go false e = refl
 
-module _ (q : Quantity) (p : ℕ) (r : Rank) where
-  preferred-keeps : (b : Choice) (k : ℕ) (s : Rank) → Preferred q b k s → Preferred q (preferred q b p r) k s
+module _ (q : Quantity) (p : ℕ) (r : Offer) where
+  preferred-keeps : (b : Choice) (k : ℕ) (s : Offer) → Preferred q b k s → Preferred q (preferred q b p r) k s
   preferred-keeps Nobody k s h = absurd h
   preferred-keeps (Parent o t) k s h = go (precedes (criteria q p r) (criteria q o t)) refl
     where
@@ -107,7 +107,7 @@ module _ (q : Quantity) (p : ℕ) (r : Rank) where
       go true = refl
       go false = refl
 
-  preferred-one : (b : Choice) (o : ℕ) (t : Rank) → preferred q b p r ≡ Parent o t → (b ≡ Parent o t) ⊎ ((o ≡ p) × (Unbarred r ≡ Unbarred t))
+  preferred-one : (b : Choice) (o : ℕ) (t : Offer) → preferred q b p r ≡ Parent o t → (b ≡ Parent o t) ⊎ ((o ≡ p) × (Unbarred r ≡ Unbarred t))
   preferred-one Nobody o t e = inr (cc, cc)
   preferred-one (Parent o′ t′) o t e = go (precedes (criteria q p r) (criteria q o′ t′)) e
     where
@@ -116,16 +116,16 @@ module _ (q : Quantity) (p : ℕ) (r : Rank) where
       go false e = inl e
 
 module _ (q : Quantity) where
-  verdict-keeps : (b : Choice) (p : ℕ) (v : Verdict) (k : ℕ) (s : Rank) → Preferred q b k s → Preferred q (afterVerdict q b p v) k s
+  verdict-keeps : (b : Choice) (p : ℕ) (v : Verdict) (k : ℕ) (s : Offer) → Preferred q b k s → Preferred q (afterVerdict q b p v) k s
   verdict-keeps b p (Unbarred r) k s h = preferred-keeps q p r b k s h
   verdict-keeps b p (Barred n i) k s h = h
 
-  from-keeps : (vs : List Verdict) (b : Choice) (p k : ℕ) (s : Rank) → Preferred q b k s → Preferred q (chooseFrom q b p vs) k s
+  from-keeps : (vs : List Verdict) (b : Choice) (p k : ℕ) (s : Offer) → Preferred q b k s → Preferred q (chooseFrom q b p vs) k s
   unfolding chooseFrom
   from-keeps [] b p k s h = h
   from-keeps (v ∷ vs) b p k s h = from-keeps vs (afterVerdict q b p v) (suc p) k s (verdict-keeps b p v k s h)
 
-  from-preferred : (vs : List Verdict) (b : Choice) (p k : ℕ) (s : Rank) → getElem? vs k ≡ some (Unbarred s) → Preferred q (chooseFrom q b p vs) (p + k) s
+  from-preferred : (vs : List Verdict) (b : Choice) (p k : ℕ) (s : Offer) → getElem? vs k ≡ some (Unbarred s) → Preferred q (chooseFrom q b p vs) (p + k) s
   unfolding chooseFrom
   from-preferred [] b p k s e = absurd (Option·none-ne-some (Unbarred s) e)
   from-preferred (v ∷ vs) b p zero s e =
@@ -136,14 +136,14 @@ module _ (q : Quantity) where
       rw z (from-preferred vs (afterVerdict q b p v) (suc p) k s e)
 
   -- no unbarred candidate precedes the choice
-  pub choose-preferred : (vs : List Verdict) (k : ℕ) (s : Rank) → getElem? vs k ≡ some (Unbarred s) → Preferred q (choose q vs) k s
+  pub choose-preferred : (vs : List Verdict) (k : ℕ) (s : Offer) → getElem? vs k ≡ some (Unbarred s) → Preferred q (choose q vs) k s
   choose-preferred vs k s e = let z : 0 + k ≡ k = omega arith in rw z at (from-preferred vs Nobody 0 k s e)
 
-  verdict-one : (b : Choice) (p : ℕ) (v : Verdict) (o : ℕ) (t : Rank) → afterVerdict q b p v ≡ Parent o t → (b ≡ Parent o t) ⊎ ((o ≡ p) × (v ≡ Unbarred t))
+  verdict-one : (b : Choice) (p : ℕ) (v : Verdict) (o : ℕ) (t : Offer) → afterVerdict q b p v ≡ Parent o t → (b ≡ Parent o t) ⊎ ((o ≡ p) × (v ≡ Unbarred t))
   verdict-one b p (Unbarred r) o t e = preferred-one q p r b o t e
   verdict-one b p (Barred n i) o t e = inl e
 
-  from-one : (vs : List Verdict) (b : Choice) (p o : ℕ) (t : Rank) → chooseFrom q b p vs ≡ Parent o t
+  from-one : (vs : List Verdict) (b : Choice) (p o : ℕ) (t : Offer) → chooseFrom q b p vs ≡ Parent o t
       → (b ≡ Parent o t) ⊎ ((k : ℕ) × (o ≡ p + k) × (getElem? vs k ≡ some (Unbarred t)))
   unfolding chooseFrom
   from-one [] b p o t e = inl e
@@ -154,7 +154,7 @@ module _ (q : Quantity) where
       (from-one vs (afterVerdict q b p v) (suc p) o t e)
 
   -- the choice is an unbarred candidate
-  pub choose-unbarred : (vs : List Verdict) (p : ℕ) (r : Rank) → choose q vs ≡ Parent p r → getElem? vs p ≡ some (Unbarred r)
+  pub choose-unbarred : (vs : List Verdict) (p : ℕ) (r : Offer) → choose q vs ≡ Parent p r → getElem? vs p ≡ some (Unbarred r)
   choose-unbarred vs p r e =
       ⊎-elim
       (λ x. absurd (let z : _≡_ {A = ℕ} 0 1 = cc in omega arith))

@@ -6,12 +6,12 @@ use Rattle.model.specs.Object.{splitUpTo, split, join, standings, kindOf
 use Rattle.model.specs.Reading.{misframed, tlvsUpTo, tlvsFit, objectBar, reading}
 use Rattle.model.specs.Constraint.{linkValue, fromFirst, hasAll, met, constraintBar}
 use Rattle.model.specs.Rank.{resulting, rankTooHigh, aboveLowest}
-use Rattle.model.specs.Verdict.{outOfRange, rankBar, verdict}
+use Rattle.model.specs.Verdict.{outOfRange, badNumbers, aheadOf, rankBar, verdict}
 use Rattle.model.specs.Update.{localValue, aggregatedBody, constraintBody, recordedBody, updateObject, objectLeaf, tooLong, leafAnswer}
 use Rattle.model.specs.Choice.{badOwn, refusal, precedes, chooseFrom, bitsOf, outgoing, call}
 use Rattle.model.specs.Listing.{decimal, objectLine, objectLines, listing}
 use Rattle.model.specs.Cut.{cut, cutContainer}
 
 unfoldable pub model : ℕ
-unfolding number firstOf indexOf splitUpTo split join standings kindOf roleOf misframed tlvsUpTo tlvsFit objectBar reading linkValue fromFirst hasAll met constraintBar resulting rankTooHigh aboveLowest outOfRange rankBar verdict localValue aggregatedBody constraintBody recordedBody updateObject objectLeaf tooLong leafAnswer badOwn refusal precedes chooseFrom bitsOf outgoing call ones decimal objectLine objectLines listing cut cutContainer
+unfolding number firstOf indexOf splitUpTo split join standings kindOf roleOf misframed tlvsUpTo tlvsFit objectBar reading linkValue fromFirst hasAll met constraintBar resulting rankTooHigh aboveLowest outOfRange badNumbers aheadOf rankBar verdict localValue aggregatedBody constraintBody recordedBody updateObject objectLeaf tooLong leafAnswer badOwn refusal precedes chooseFrom bitsOf outgoing call ones decimal objectLine objectLines listing cut cutContainer
 model = 0

@@ -1,5 +1,5 @@
 -- The cut against the verdict on a candidate.
-use mathlib.Core.Path.{_≡_, refl, sym, _∙_}
+use mathlib.Core.Path.{_≡_, ap, refl, sym, _∙_}
 use Prim.Native.Nat.{ℕ, zero, suc}
 use mathlib.Core.Bool.{Bool, true, false, cond, not, _||_}
 use mathlib.Core.List.{List}
@@ -7,14 +7,14 @@ use Rattle.model.specs.declared.Own.{Own}
 use Rattle.model.specs.declared.Neighbour.{Neighbour}
 use Rattle.model.specs.declared.Candidate.{Candidate}
 use borrow.Author.Tests.{not-false}
-use Rattle.model.specs.declared.Rank.{Rank}
+use Rattle.model.specs.declared.Offer.{Offer}
 use Rattle.model.specs.declared.Verdict.the-variants.{Unbarred, Barred}
 use Rattle.model.specs.Number.{anyOf, firstOf, indexOf}
 use Rattle.model.specs.Object.{Object}
 use Rattle.model.specs.Reading.{noPlace, wellFormed, reading}
 use Rattle.model.specs.Constraint.{summary, unknownMandatory, constraintBar}
 use Rattle.model.specs.Rank.{resulting}
-use Rattle.model.specs.Verdict.{outOfRange, containerOf, rankBar, judgeRank, judgeObjects, judgeReading, verdict, isUnbarred}
+use Rattle.model.specs.Verdict.{offerOf, badNumbers, containerOf, rankBar, judgeRank, judgeObjects, judgeReading, verdict, isUnbarred}
 use Rattle.model.specs.Cut.{cut}
 use Rattle.model.specs.Unknown.{CutBeside, isUnknownMandatory, holdsUnknown}
 use Rattle.model.specs.Conditions.{objectsIn}
@@ -62,7 +62,7 @@ module _ (own : Own) (lent lent′ : List ℕ) (c c′ : Candidate) (x : CutBesi
 
   pub verdict-bars : not (isUnbarred (verdict own lent c)) ≡ not (isUnbarred (verdict own lent′ c′)) || holdsUnknown lent c
   unfolding verdict
-  verdict-bars = rw (holds-unknown, x .numbers, x .whole .inside, x .inside, x .whole .read, read-second) (go (outOfRange (c .neighbour)))
+  verdict-bars = rw (holds-unknown, x .numbers, x .whole .inside, x .inside, x .whole .read, read-second) (go (badNumbers own (c .neighbour)))
     where
       go : (b : Bool) → not (isUnbarred (cond b (Barred 11 noPlace) (judgeReading own (c .neighbour) (wellFormed (x .whole .objects)))))
           ≡ not (isUnbarred (cond b (Barred 11 noPlace) (judgeReading own (c .neighbour) (wellFormed (cut (x .whole .objects)))))) || anyOf unknownMandatory (x .whole .objects)
@@ -71,7 +71,7 @@ module _ (own : Own) (lent lent′ : List ℕ) (c c′ : Candidate) (x : CutBesi
 
   pub verdict-same : holdsUnknown lent c ≡ false → placeless (verdict own lent c) ≡ placeless (verdict own lent′ c′)
   unfolding verdict
-  verdict-same s = rw (x .numbers, x .whole .inside, x .inside, x .whole .read, read-second) (go (outOfRange (c .neighbour)))
+  verdict-same s = rw (x .numbers, x .whole .inside, x .inside, x .whole .read, read-second) (go (badNumbers own (c .neighbour)))
     where
       go : (b : Bool) → placeless (cond b (Barred 11 noPlace) (judgeReading own (c .neighbour) (wellFormed (x .whole .objects))))
           ≡ placeless (cond b (Barred 11 noPlace) (judgeReading own (c .neighbour) (wellFormed (cut (x .whole .objects)))))
@@ -82,10 +82,10 @@ module _ (own : Own) (lent lent′ : List ℕ) (c c′ : Candidate) (x : CutBesi
   resulting-same = rw (x .numbers)
 
   -- unbarred in the first call, a candidate is unbarred in the second, with the same rank
-  pub unbarred-same : (k : Rank) → verdict own lent c ≡ Unbarred k → verdict own lent′ c′ ≡ Unbarred k
+  pub unbarred-same : (k : Offer) → verdict own lent c ≡ Unbarred k → verdict own lent′ c′ ≡ Unbarred k
   unbarred-same k e =
       let f : isUnbarred (verdict own lent c) ≡ true = rw e in
       let b : not (isUnbarred (verdict own lent′ c′)) ≡ false = neither (not (isUnbarred (verdict own lent′ c′))) (holdsUnknown lent c) (sym verdict-bars ∙ rw f) .0 in
       let a = admitted own lent c f in
       let a′ = admitted own lent′ c′ (not-false (isUnbarred (verdict own lent′ c′)) b) in
-      a′ .rank ∙ rw (← resulting-same) (sym (a .rank)) ∙ e
+      a′ .rank ∙ ap (λ n. Unbarred (offerOf own n)) (x .numbers) ∙ sym (a .rank) ∙ e

@@ -11,6 +11,7 @@ pub mod Bars
 pub mod LeafLaws
 pub mod VerdictLaws
 pub mod CallLaws
+pub mod OfferLaws
 pub mod Selection
 pub mod OutgoingLaws
 pub mod Exact
@@ -31,6 +32,7 @@ pub mod ReadBack
 pub mod SumLaws
 pub mod CountLaws
 pub mod Local
+pub mod Editions
 pub mod TypeLaws
 pub mod Computed
 pub mod Examples

@@ -6,7 +6,7 @@ use mathlib.Core.List.{List}
 use mathlib.Core.Option.{some}
 use lib.ListN.{getElem?}
 use lib.Seq.{take-append-seam}
-use Rattle.model.specs.declared.Rank.{Rank}
+use Rattle.model.specs.declared.Offer.{Offer}
 use Rattle.model.specs.declared.Own.{Own}
 use Rattle.model.specs.declared.Candidate.{Candidate}
 use Rattle.model.specs.declared.Choice.{Choice}
@@ -26,10 +26,10 @@ use Rattle.model.proofs.Selection.{parented}
 pub data Sending (own : Own) (cs : List Candidate) (lent : List ℕ) (ch : Choice) : Outgoing → Type 0 where
   nobody : ch ≡ Nobody → Sending own cs lent ch (noContainer 0)
   asLeaf : (k : ℕ) → Sending own cs lent ch (noContainer (suc k))
-  sends : (p : ℕ) (r : Rank) (c : Candidate) (os : List Object) → ch ≡ Parent p r → getElem? cs p ≡ some c → reading (containerOf lent c) ≡ wellFormed os
+  sends : (p : ℕ) (r : Offer) (c : Candidate) (os : List Object) → ch ≡ Parent p r → getElem? cs p ≡ some c → reading (containerOf lent c) ≡ wellFormed os
       → leafAnswer own (c .neighbour) os ≡ 0 → Sending own cs lent ch (nextHop (container (update own (c .neighbour) os)))
 
-sending-parent : (own : Own) (cs : List Candidate) (lent : List ℕ) (p : ℕ) (r : Rank) (c : Candidate) (os : List Object) → getElem? cs p ≡ some c
+sending-parent : (own : Own) (cs : List Candidate) (lent : List ℕ) (p : ℕ) (r : Offer) (c : Candidate) (os : List Object) → getElem? cs p ≡ some c
     → reading (containerOf lent c) ≡ wellFormed os → Sending own cs lent (Parent p r) (outgoing own cs lent (Parent p r))
 unfolding outgoing
 sending-parent own cs lent p r c os s e = rw (s, e) (go (leafAnswer own (c .neighbour) os) refl)
@@ -47,7 +47,7 @@ sending own cs lent out taken (Parent p r) e =
     sending-parent own cs lent p r (x .candidate) (x .objects) (x .stands) (x .read)
 
 -- the leaf number of a parent with these objects
-leaf-of : (own : Own) (cs : List Candidate) (lent : List ℕ) (p : ℕ) (r : Rank) (c : Candidate) (os : List Object) → getElem? cs p ≡ some c
+leaf-of : (own : Own) (cs : List Candidate) (lent : List ℕ) (p : ℕ) (r : Offer) (c : Candidate) (os : List Object) → getElem? cs p ≡ some c
     → reading (containerOf lent c) ≡ wellFormed os → leafOf (outgoing own cs lent (Parent p r)) ≡ leafAnswer own (c .neighbour) os
 unfolding outgoing
 leaf-of own cs lent p r c os s e = rw (s, e) (go (leafAnswer own (c .neighbour) os))
@@ -57,7 +57,7 @@ leaf-of own cs lent p r c os s e = rw (s, e) (go (leafAnswer own (c .neighbour) 
     go (suc k) = refl
 
 -- the container that is sent for them
-container-of : (own : Own) (cs : List Candidate) (lent : List ℕ) (p : ℕ) (r : Rank) (c : Candidate) (os : List Object) → getElem? cs p ≡ some c
+container-of : (own : Own) (cs : List Candidate) (lent : List ℕ) (p : ℕ) (r : Offer) (c : Candidate) (os : List Object) → getElem? cs p ≡ some c
     → reading (containerOf lent c) ≡ wellFormed os → leafAnswer own (c .neighbour) os ≡ 0 → outgoing own cs lent (Parent p r) ≡ nextHop (container (update own (c .neighbour) os))
 unfolding outgoing
 container-of own cs lent p r c os s e l = rw (s, e, l)
@@ -67,7 +67,7 @@ module _ (own : Own) (cs : List Candidate) (lent out : List ℕ) (taken : call o
   -- the parent that the answer names is the one chosen
   record Chosen : Type 0 where
     position : ℕ
-    rank : Rank
+    rank : Offer
     choice : choiceOf own cs lent ≡ Parent position rank
     stands : getElem? cs position ≡ some (x .candidate)
 

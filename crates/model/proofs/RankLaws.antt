@@ -11,7 +11,7 @@ use Rattle.model.specs.declared.Verdict.the-variants.{Unbarred, Barred}
 use Rattle.model.specs.Number.{isSet, satisfies}
 use Rattle.model.specs.Reading.{noPlace}
 use Rattle.model.specs.Rank.{lowestOf, infinite, resulting, rankTooHigh, aboveLowest}
-use Rattle.model.specs.Verdict.{rankBar, judgeRank}
+use Rattle.model.specs.Verdict.{offerOf, rankBar, judgeRank}
 use Rattle.model.proofs.ConstraintLaws.{satisfies-known}
 
 -- an infinite advertised rank results in one
@@ -36,9 +36,9 @@ module _ (own : Own) (c : Neighbour) (rank : ℕ) (e : rank ≡ resulting own c)
   unfolding rankBar
   judged-21 l a = rw (too-high-by, lt-leb infinite rank l, a)
 
-  pub judged-unbarred : rank < infinite → aboveLowest own c ≡ false → Unbarred (record { 0 = rank }) ≡ judgeRank own c (rankBar own c)
+  pub judged-unbarred : rank < infinite → aboveLowest own c ≡ false → Unbarred (offerOf own c) ≡ judgeRank own c (rankBar own c)
   unfolding rankBar
-  judged-unbarred l a = rw (too-high-by, lt-leb infinite rank l, a, e)
+  judged-unbarred l a = rw (too-high-by, lt-leb infinite rank l, a)
 
 -- bar 21 by the bit that says that L is given
 pub by-lowest : (own : Own) (highest rank : ℕ) (c : Neighbour) → highest ≡ own .lowest .0 + own .maxincrease → rank ≡ resulting own c

@@ -32,6 +32,7 @@ refusal-exact own n m = record {
   refusal-2 = exact (refusalCases own n m) 1 refl;
   refusal-3 = exact (refusalCases own n m) 2 refl;
   refusal-4 = exact (refusalCases own n m) 3 refl;
+  refusal-5 = exact (refusalCases own n m) 4 refl;
   unrefused = exact-none (refusalCases own n m) refl;
 }
 

@@ -1,5 +1,5 @@
 -- What a call reports that is not refused: the parent, the verdicts, the bits and their count.
-use mathlib.Core.Path.{_≡_, refl, sym, ap, _∙_}
+use mathlib.Core.Path.{_≡_, refl, sym, ap, subst, _∙_}
 use Prim.Native.Nat.{ℕ, zero, suc, _+_, _-_, _≤_, _<_}
 use native.Mathlib.Omega.{arith}
 use mathlib.Core.Bool.{Bool, true, false, cond, not, false≢true, true≢false}
@@ -10,8 +10,9 @@ use lib.Dec.{eqb}
 use borrow.Author.Tests.{eqb-true, ne-eqb, eq-eqb}
 use Rattle.model.specs.declared.Quantity.{Quantity}
 use Rattle.model.specs.declared.Quantity.the-variants.{Known, Unknown}
-use Rattle.model.specs.declared.Rank.{Rank}
+use Rattle.model.specs.declared.Offer.{Offer}
 use Rattle.model.specs.declared.Own.{Own}
+use Rattle.model.specs.declared.Neighbour.{Neighbour}
 use Rattle.model.specs.declared.Candidate.{Candidate}
 use Rattle.model.specs.declared.Verdict.{Verdict}
 use Rattle.model.specs.declared.Verdict.the-variants.{Unbarred, Barred}
@@ -19,27 +20,17 @@ use Rattle.model.specs.declared.Choice.{Choice}
 use Rattle.model.specs.declared.Choice.the-variants.{Nobody, Parent}
 use Rattle.model.specs.Reading.{noPlace}
 use Rattle.model.specs.Rank.{infinite, resulting}
-use Rattle.model.specs.Verdict.{verdict, numberOf, placeOf, isUnbarred}
+use Rattle.model.specs.Verdict.{offerOf, verdict, numberOf, placeOf, isUnbarred}
 use Rattle.model.specs.Choice.{currentOf, notCurrent, criteria, precedes, unbarredBit, Outgoing, outgoing, noParent, parentOf, rankOf, leafOf, sizeOf, sixteen, answered, verdicts, choiceOf, call, refusal}
 use Rattle.model.specs.Conditions.{barredByNothing}
-use Rattle.model.specs.Selection.{hasParent, occurrences, PreferredParent, Selection, SelectionHolds}
+use Rattle.model.specs.Selection.{Level, hasParent, occurrences, PreferredParent, Selection, SelectionHolds}
 use Rattle.model.proofs.ListLaws.{at-below, at-map, map-at, getD-at, getD-past, any-map, any-same, length-filled}
-use Rattle.model.proofs.ChoiceLaws.{not-preceding, isParent, Preferred, choose-preferred, choose-unbarred, choose-parent, bit-at, bits-below, unbarredCount, ones-bits}
+use Rattle.model.proofs.ChoiceLaws.{isParent, Preferred, choose-preferred, choose-unbarred, choose-parent, bit-at, bits-below, unbarredCount, ones-bits}
+use Rattle.model.proofs.OfferLaws.{Then, ByOffer, ties, level-ahead, not-behind}
 use Rattle.model.proofs.CallLaws.{call-is, unrefused}
-use Rattle.model.proofs.VerdictLaws.{nothing-bars, admitted, ten, finite, rises}
+use Rattle.model.proofs.VerdictLaws.{in-order, nothing-bars, admitted, ten, finite, rises}
 
 -- ---- the criteria
-
--- position p is preferred to k: a lower rank; or the same, and p is current; or neither is, and p is lower
-ties : (q : Quantity) (k p : ℕ) (s r : Rank) → precedes (criteria q k s) (criteria q p r) ≡ false
-    → (r .0 ≤ s .0) × (s .0 ≡ r .0 → (notCurrent q p ≤ notCurrent q k) × (notCurrent q k ≡ notCurrent q p → p ≤ k))
-unfolding precedes
-ties q k p s r e =
-    let (a, f) = not-preceding (s .0) (r .0) _ e in (
-      a,
-      λ h. let (b, g) = not-preceding (notCurrent q k) (notCurrent q p) _ (f h) in
-          (b, λ i. not-preceding k p false (g i) .0),
-    )
 
 current-is : (q : Quantity) (p : ℕ) → notCurrent q p ≤ 0 → q ≡ Known p
 current-is (Known i) p h = go (eqb i p) refl h
@@ -93,10 +84,10 @@ module _ (own : Own) (cs : List Candidate) (lent out : List ℕ) (taken : call o
   vs = verdicts own cs lent
 
   -- the candidate behind an unbarred verdict
-  candidate-at : (p : ℕ) (r : Rank) → getElem? vs p ≡ some (Unbarred r) → (c : Candidate) × (getElem? cs p ≡ some c) × (verdict own lent c ≡ Unbarred r)
+  candidate-at : (p : ℕ) (r : Offer) → getElem? vs p ≡ some (Unbarred r) → (c : Candidate) × (getElem? cs p ≡ some c) × (verdict own lent c ≡ Unbarred r)
   candidate-at p r e = map-at (verdict own lent) cs p (Unbarred r) e
 
-  below : (p : ℕ) (r : Rank) → choiceOf own cs lent ≡ Parent p r → p < 16
+  below : (p : ℕ) (r : Offer) → choiceOf own cs lent ≡ Parent p r → p < 16
   below p r e =
       let (c, s, v) = candidate-at p r (choose-unbarred (currentOf own) vs p r e) in
       let u = unrefused own cs lent out taken in
@@ -108,16 +99,17 @@ module _ (own : Own) (cs : List Candidate) (lent out : List ℕ) (taken : call o
   has-parent (Parent p r) e = let h = below p r e in let f : eqb p noParent ≡ false = ne-eqb p noParent (λ z. omega arith) in rw f
 
   -- what is unbarred at a position, as the choice sees it
-  unbarred-at : (i : ℕ) (d : Candidate) → getElem? cs i ≡ some d → barredByNothing own lent d ≡ true → getElem? vs i ≡ some (Unbarred (record { 0 = resulting own (d .neighbour) }))
+  unbarred-at : (i : ℕ) (d : Candidate) → getElem? cs i ≡ some d → barredByNothing own lent d ≡ true → getElem? vs i ≡ some (Unbarred (offerOf own (d .neighbour)))
   unbarred-at i d s f = at-map (verdict own lent) cs i d s ∙ ap some (admitted own lent d (sym (nothing-bars own lent d) ∙ f) .rank)
 
-  pub parented : (p : ℕ) (r : Rank) → choiceOf own cs lent ≡ Parent p r → (o : Outgoing) → PreferredParent own cs lent (answered vs (Parent p r) o out .answer)
+  pub parented : (p : ℕ) (r : Offer) → choiceOf own cs lent ≡ Parent p r → (o : Outgoing) → PreferredParent own cs lent (answered vs (Parent p r) o out .answer)
   parented p r e o =
       let (c, s, v) = candidate-at p r (choose-unbarred (currentOf own) vs p r e) in
       let u : isUnbarred (verdict own lent c) ≡ true = rw v in
       let a = admitted own lent c u in
-      let k : Unbarred r ≡ Unbarred (record { 0 = resulting own (c .neighbour) }) = sym v ∙ a .rank in
-      let g : r .0 ≡ resulting own (c .neighbour) = unbarred-rank r (record { 0 = resulting own (c .neighbour) }) k in
+      let k : Unbarred r ≡ Unbarred (offerOf own (c .neighbour)) = sym v ∙ a .rank in
+      let q0 : r ≡ offerOf own (c .neighbour) = same-offer r (offerOf own (c .neighbour)) k in
+      let g : r .rank .0 ≡ resulting own (c .neighbour) = ap (λ x. x .rank .0) q0 in
       record {
         candidate = c;
         stands = s;
@@ -127,31 +119,43 @@ module _ (own : Own) (cs : List Candidate) (lent out : List ℕ) (taken : call o
         rank = g;
         finite = let h = finite own (c .neighbour) (a .lowRank) in omega arith;
         rises = let h = rises own (c .neighbour) (a .inRange) (unrefused own cs lent out taken .grows) in omega arith;
-        least = λ i d s f. beside i d s f .0;
-        tie-current = λ i d s f t q.
-            let (x, y) = beside i d s f .1 t in
+        ahead = λ t i d s f.
+            let m = in-order own (d .neighbour) (admitted own lent d (sym (nothing-bars own lent d) ∙ f) .inRange) t .1 in
+            not-behind own (c .neighbour) (d .neighbour) t m (rw q0 at (beside i d s f .0));
+        least = λ i d s f l. level i d (c .neighbour) q0 (beside i d s f) l .0;
+        tie-current = λ i d s f l t q.
+            let (x, y) = level i d (c .neighbour) q0 (beside i d s f) l .1 t in
             let z : notCurrent (currentOf own) p ≤ 0 = let w = is-current (currentOf own) i q in omega arith in
             known-same (currentOf own) p i (current-is (currentOf own) p z) q;
-        tie-position = λ i d s f t q.
-            let (x, y) = beside i d s f .1 t in
+        tie-position = λ i d s f l t q.
+            let (x, y) = level i d (c .neighbour) q0 (beside i d s f) l .1 t in
             let one = not-current (currentOf own) p q in
             let most = at-most-one (currentOf own) i in
             y (omega arith);
       }
     where
-      unbarred-rank : (r s : Rank) → Unbarred r ≡ Unbarred s → r .0 ≡ s .0
-      unbarred-rank r s e = let q : r ≡ s = cc in ap (λ x. x .0) q
+      same-offer : (r s : Offer) → Unbarred r ≡ Unbarred s → r ≡ s
+      same-offer r s e = cc
 
       known-same : (q : Quantity) (p i : ℕ) → q ≡ Known p → q ≡ Known i → p ≡ i
       known-same q p i a b = cc
 
-      beside : (i : ℕ) (d : Candidate) → getElem? cs i ≡ some d → barredByNothing own lent d ≡ true
-          → (r .0 ≤ resulting own (d .neighbour))
-          × (resulting own (d .neighbour) ≡ r .0 → (notCurrent (currentOf own) p ≤ notCurrent (currentOf own) i) × (notCurrent (currentOf own) i ≡ notCurrent (currentOf own) p → p ≤ i))
+      -- level in the rank too, p is current, or neither is and p is lower
+      Last : (i : ℕ) → Type 0
+      Last i = Then (notCurrent (currentOf own) i) (notCurrent (currentOf own) p) (p ≤ i)
+
+      Behind : (i : ℕ) → Candidate → Offer → Type 0
+      Behind i d r = ByOffer (offerOf own (d .neighbour)) r (Last i)
+
+      beside : (i : ℕ) (d : Candidate) → getElem? cs i ≡ some d → barredByNothing own lent d ≡ true → Behind i d r
       beside i d s f =
-          let h : Preferred (currentOf own) (Parent p r) i (record { 0 = resulting own (d .neighbour) }) =
-          rw e at (choose-preferred (currentOf own) vs i (record { 0 = resulting own (d .neighbour) }) (unbarred-at i d s f)) in
-          ties (currentOf own) i p (record { 0 = resulting own (d .neighbour) }) r h
+          let h : Preferred (currentOf own) (Parent p r) i (offerOf own (d .neighbour)) =
+          rw e at (choose-preferred (currentOf own) vs i (offerOf own (d .neighbour)) (unbarred-at i d s f)) in
+          ties (currentOf own) i p (offerOf own (d .neighbour)) r h
+
+      level : (i : ℕ) (d : Candidate) (n : Neighbour) → r ≡ offerOf own n → Behind i d r → Level own n (d .neighbour)
+          → (r .rank .0 ≤ resulting own (d .neighbour)) × (resulting own (d .neighbour) ≡ r .rank .0 → Last i)
+      level i d n q b l = b .1 (level-ahead own n (d .neighbour) l ∙ ap (λ t. t .ahead) (sym q))
 
   by-choice : (ch : Choice) → choiceOf own cs lent ≡ ch → Selection own cs lent (answered vs ch (outgoing own cs lent ch) out .answer)
   unfolding outgoing

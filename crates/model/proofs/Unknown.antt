@@ -7,7 +7,7 @@ use mathlib.Core.Option.{some, Option·none-ne-some, Option·some-injective}
 use lib.ListN.{length, getElem?}
 use lib.Count.{ones}
 use lib.Seq.{take-append-seam}
-use Rattle.model.specs.declared.Rank.{Rank}
+use Rattle.model.specs.declared.Offer.{Offer}
 use Rattle.model.specs.declared.Own.{Own}
 use Rattle.model.specs.declared.Candidate.{Candidate}
 use Rattle.model.specs.declared.Verdict.the-variants.{Unbarred}
@@ -92,7 +92,7 @@ module _ (own : Own) (cs cs′ : List Candidate) (lent lent′ out out′ : List
   -- the parent of the first call, and what both calls pass on for it
   record BothPassOn : Type 0 where
     position : ℕ
-    rank : Rank
+    rank : Offer
     choice : choiceOf own cs lent ≡ Parent position rank
     candidate : Candidate
     stands : getElem? cs position ≡ some candidate

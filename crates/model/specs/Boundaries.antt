@@ -14,6 +14,7 @@ pub mod Listings
 pub mod Cuts
 pub mod Bits
 pub mod Colours
+pub mod Editions
 use Rattle.model.specs.Listing.{listing}
 use Rattle.model.specs.Cut.{cutContainer}
 use Rattle.model.specs.Samples.{Holds, verdictOf, passedBy, outcomeOf}
@@ -32,6 +33,7 @@ use Listings.{lines}
 use Cuts.{cuts}
 use Bits.{verdicts, refusals as currentBit, containers as ownBits}
 use Colours.{numbers as colourNumbers, lengths as colourLengths, uses as colourUses, links as colourLinks, bits as colourBits, bitVerdicts as colourBitVerdicts, leaves as colourLeaves, records as colourRecords, constraints as colourConstraints, lines as colourLines, cuts as colourCuts}
+use Editions.{refusals as editionRefusals, sites, siteVerdicts, earlier, contests, parents, outcomes}
 
 -- the tables, each computed
 pub record Boundaries : Type 0 where
@@ -91,3 +93,9 @@ pub record Boundaries : Type 0 where
   pub constraintColours : Holds passedBy colourConstraints
   pub colourTexts : Holds listing colourLines
   pub cutColours : Holds cutContainer colourCuts
+  -- editions 1 and 2
+  pub refusal5 : Holds sizedRefusal editionRefusals
+  pub bar11Sites : Holds siteVerdicts sites
+  pub bar11Order : Holds verdictOf earlier
+  pub eachCriterion : Holds parents contests
+  pub inEditions : Holds outcomeOf outcomes

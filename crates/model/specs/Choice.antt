@@ -1,6 +1,6 @@
 -- The call: refusals, the choice of a preferred parent, and the answer with the output bytes.
 use Prim.Native.Nat.{ℕ, zero, suc, _+_, _-_, _*_, _/_, _%_}
-use mathlib.Core.Bool.{Bool, false, cond, _&&_, _||_}
+use mathlib.Core.Bool.{Bool, false, cond, not, _&&_, _||_}
 use mathlib.Core.List.{List, [], _∷_, _++_, map}
 use mathlib.Core.Option.{Option, none, some}
 use lib.ListN.{length, drop, replicate, getElem?}
@@ -8,6 +8,7 @@ use lib.Dec.{leb, ltb, eqb}
 use lib.Count.{ones}
 use Rattle.model.specs.declared.Quantity.{Quantity}
 use Rattle.model.specs.declared.Rank.{Rank}
+use Rattle.model.specs.declared.Offer.{Offer}
 use Rattle.model.specs.declared.Own.{Own}
 use Rattle.model.specs.declared.Neighbour.{Neighbour}
 use Rattle.model.specs.declared.Candidate.{Candidate}
@@ -45,9 +46,13 @@ currentPast own n = satisfies (λ p. leb n p) (currentOf own)
 abbrev pub shortOutput : (room : ℕ) → Bool
 shortOutput m = ltb m 257
 
+-- 5: edition other than 1 or 2
+abbrev pub badEdition : Own → Bool
+badEdition own = not (eqb (own .edition) 1 || eqb (own .edition) 2)
+
 -- the refusals in document 01's order
 abbrev pub refusalCases : Own → (count room : ℕ) → List Case
-refusalCases own n m = 1 when badOwn own ∷ 2 when tooMany n ∷ 3 when currentPast own n ∷ 4 when shortOutput m ∷ []
+refusalCases own n m = 1 when badOwn own ∷ 2 when tooMany n ∷ 3 when currentPast own n ∷ 4 when shortOutput m ∷ 5 when badEdition own ∷ []
 
 -- the whole-call refusal; 0 for none
 unfoldable pub refusal : Own → (count room : ℕ) → ℕ
@@ -59,9 +64,10 @@ refusal own n m = firstCase (refusalCases own n m)
 abbrev pub notCurrent : (current : Quantity) → (position : ℕ) → ℕ
 notCurrent q p = cond (satisfies (λ i. eqb i p) q) 0 1
 
--- what candidates are compared by, the first criterion first: resulting rank, being the current parent, position
-abbrev pub criteria : (current : Quantity) → (position : ℕ) → Rank → List ℕ
-criteria q p r = r .0 ∷ notCurrent q p ∷ p ∷ []
+-- what candidates are compared by, the first criterion first: interface order, grounded and root preference, all 0 in edition 1; then
+-- resulting rank, being the current parent, position
+abbrev pub criteria : (current : Quantity) → (position : ℕ) → Offer → List ℕ
+criteria q p r = r .ahead / 16 ∷ r .ahead / 8 % 2 ∷ r .ahead % 8 ∷ r .rank .0 ∷ notCurrent q p ∷ p ∷ []
 
 -- the first criterion on which two differ is lower
 unfoldable pub precedes : List ℕ → List ℕ → Bool
@@ -70,7 +76,7 @@ precedes (x ∷ xs) [] = false
 precedes (x ∷ xs) (y ∷ ys) = ltb x y || eqb x y && precedes xs ys
 
 -- an unbarred candidate beside the best so far
-abbrev pub preferred : (current : Quantity) → Choice → (position : ℕ) → Rank → Choice
+abbrev pub preferred : (current : Quantity) → Choice → (position : ℕ) → Offer → Choice
 preferred q Nobody p r = Parent p r
 preferred q (Parent b s) p r = cond (precedes (criteria q p r) (criteria q b s)) (Parent p r) (Parent b s)
 
@@ -139,7 +145,7 @@ parentOf (Parent p r) = p
 -- the node's rank that is reported: the parent's resulting rank, infinite for none
 abbrev pub rankOf : Choice → Rank
 rankOf Nobody = record { 0 = infinite }
-rankOf (Parent p r) = r
+rankOf (Parent p r) = r .rank
 
 -- the leaf number that is reported: 0 where no leaf answer is given
 abbrev pub leafOf : Outgoing → ℕ

@@ -12,7 +12,7 @@ use Rattle.model.specs.Object.{Object, Standing, standings}
 use Rattle.model.specs.Reading.{misframed, dataObjects, runsPast, malformed, repeated, misused}
 use Rattle.model.specs.Constraint.{summary, unknownMandatory, unmet}
 use Rattle.model.specs.Rank.{rankTooHigh, aboveLowest}
-use Rattle.model.specs.Verdict.{outOfRange, containerOf, outside}
+use Rattle.model.specs.Verdict.{badNumbers, containerOf, outside}
 
 -- some element of a list has one of several properties
 abbrev pub someHas {ℓ} : {A : Type ℓ} → List (A → Bool) → List A → Bool
@@ -36,21 +36,21 @@ abbrev pub constraintBars : Neighbour → Summary → List (Object → Bool)
 constraintBars c s = unknownMandatory ∷ unmet c s ∷ []
 
 -- the conditions of bars 11 to 14
-abbrev pub barsTo14 : (lent : List ℕ) → Candidate → List Bool
-barsTo14 lent c = outOfRange (c .neighbour) ∷ outside lent c ∷ misframed (containerOf lent c) ∷ runsPast (containerOf lent c) ∷ []
+abbrev pub barsTo14 : Own → (lent : List ℕ) → Candidate → List Bool
+barsTo14 own lent c = badNumbers own (c .neighbour) ∷ outside lent c ∷ misframed (containerOf lent c) ∷ runsPast (containerOf lent c) ∷ []
 
 -- the conditions of bars 11 to 17
-abbrev pub barsTo17 : (lent : List ℕ) → Candidate → List Bool
-barsTo17 lent c = barsTo14 lent c ++ (someHas objectBars (standings [] (objectsIn (containerOf lent c))) ∷ [])
+abbrev pub barsTo17 : Own → (lent : List ℕ) → Candidate → List Bool
+barsTo17 own lent c = barsTo14 own lent c ++ (someHas objectBars (standings [] (objectsIn (containerOf lent c))) ∷ [])
 
 -- the conditions of bars 11 to 19
-abbrev pub barsTo19 : (lent : List ℕ) → Candidate → List Bool
-barsTo19 lent c =
-    barsTo17 lent c ++ (someHas (constraintBars (c .neighbour) (summary (objectsIn (containerOf lent c)))) (objectsIn (containerOf lent c)) ∷ [])
+abbrev pub barsTo19 : Own → (lent : List ℕ) → Candidate → List Bool
+barsTo19 own lent c =
+    barsTo17 own lent c ++ (someHas (constraintBars (c .neighbour) (summary (objectsIn (containerOf lent c)))) (objectsIn (containerOf lent c)) ∷ [])
 
 -- the conditions of bars 11 to 21
 abbrev pub barsTo21 : Own → (lent : List ℕ) → Candidate → List Bool
-barsTo21 own lent c = barsTo19 lent c ++ (rankTooHigh own (c .neighbour) ∷ aboveLowest own (c .neighbour) ∷ [])
+barsTo21 own lent c = barsTo19 own lent c ++ (rankTooHigh own (c .neighbour) ∷ aboveLowest own (c .neighbour) ∷ [])
 
 -- a candidate that no condition of a bar holds of
 abbrev pub barredByNothing : Own → (lent : List ℕ) → Candidate → Bool

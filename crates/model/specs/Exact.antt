@@ -7,7 +7,7 @@ use mathlib.Core.Logic.{_↔_}
 use mathlib.Core.Option.{some}
 use lib.ListN.{length, getD, getElem?, replicate}
 use lib.Dec.{leb, ltb, eqb}
-use Rattle.model.specs.declared.Rank.{Rank}
+use Rattle.model.specs.declared.Offer.{Offer}
 use Rattle.model.specs.declared.Answer.{Answer}
 use Rattle.model.specs.declared.Own.{Own}
 use Rattle.model.specs.declared.Neighbour.{Neighbour}
@@ -20,10 +20,10 @@ use Rattle.model.specs.Table.{row}
 use Rattle.model.specs.Cut.{mayHaveTlvs}
 use Rattle.model.specs.Reading.{Reading, refused, wellFormed, reading, noPlace, misframed, runsPast, malformed, repeated, misused}
 use Rattle.model.specs.Constraint.{summary, unknownMandatory, unmet}
-use Rattle.model.specs.Rank.{infinite, resulting, rankTooHigh, aboveLowest}
-use Rattle.model.specs.Verdict.{outOfRange, containerOf, outside, verdict}
+use Rattle.model.specs.Rank.{infinite, rankTooHigh, aboveLowest}
+use Rattle.model.specs.Verdict.{badNumbers, offerOf, containerOf, outside, verdict}
 use Rattle.model.specs.Update.{unknownAggregated, notAllowed, noValue, fullCount, overflows, tooLong}
-use Rattle.model.specs.Choice.{badOwn, tooMany, currentPast, shortOutput, noParent, call}
+use Rattle.model.specs.Choice.{badOwn, tooMany, currentPast, shortOutput, badEdition, noParent, call}
 use Rattle.model.specs.Conditions.{someHas, objectsIn, objectBars, constraintBars, barsTo14, barsTo17, barsTo19, barsTo21}
 use Rattle.model.specs.Selection.{PreferredParent}
 
@@ -50,7 +50,8 @@ pub record RefusalExact (own : Own) (count room given : ℕ) : Type 0 where
   pub refusal-2 : (given ≡ 2) ↔ FirstToHold (badOwn own ∷ []) (tooMany count)
   pub refusal-3 : (given ≡ 3) ↔ FirstToHold (badOwn own ∷ tooMany count ∷ []) (currentPast own count)
   pub refusal-4 : (given ≡ 4) ↔ FirstToHold (badOwn own ∷ tooMany count ∷ currentPast own count ∷ []) (shortOutput room)
-  pub unrefused : (given ≡ 0) ↔ NoneOf (badOwn own ∷ tooMany count ∷ currentPast own count ∷ shortOutput room ∷ [])
+  pub refusal-5 : (given ≡ 5) ↔ FirstToHold (badOwn own ∷ tooMany count ∷ currentPast own count ∷ shortOutput room ∷ []) (badEdition own)
+  pub unrefused : (given ≡ 0) ↔ NoneOf (badOwn own ∷ tooMany count ∷ currentPast own count ∷ shortOutput room ∷ badEdition own ∷ [])
 
 -- of every call
 abbrev pub RefusalsExact : Type 0
@@ -74,13 +75,13 @@ RefusedAnswers = (own : Own) (cs : List Candidate) (lent out : List ℕ) → (ca
 -- ---- bars 11 to 21
 
 -- bars 15 to 17 at the object of an index
-abbrev pub BarAt : (lent : List ℕ) → Candidate → (lower : List (Standing → Bool)) → (Standing → Bool) → (place : ℕ) → Type 0
-BarAt lent c lower bar place = NoneOf (barsTo14 lent c) × FirstWith (standings [] (objectsIn (containerOf lent c))) objectBars lower bar place
+abbrev pub BarAt : Own → (lent : List ℕ) → Candidate → (lower : List (Standing → Bool)) → (Standing → Bool) → (place : ℕ) → Type 0
+BarAt own lent c lower bar place = NoneOf (barsTo14 own lent c) × FirstWith (standings [] (objectsIn (containerOf lent c))) objectBars lower bar place
 
 -- bars 18 and 19 at the object of an index
-abbrev pub ConstraintAt : (lent : List ℕ) → Candidate → (lower : List (Object → Bool)) → (Object → Bool) → (place : ℕ) → Type 0
-ConstraintAt lent c lower bar place =
-    NoneOf (barsTo17 lent c)
+abbrev pub ConstraintAt : Own → (lent : List ℕ) → Candidate → (lower : List (Object → Bool)) → (Object → Bool) → (place : ℕ) → Type 0
+ConstraintAt own lent c lower bar place =
+    NoneOf (barsTo17 own lent c)
     × FirstWith (objectsIn (containerOf lent c)) (constraintBars (c .neighbour) (summary (objectsIn (containerOf lent c)))) lower bar place
 
 -- bars 15 to 17 in a container by itself
@@ -90,37 +91,37 @@ ReadingAt bs lower bar place = NoneOf (misframed bs ∷ runsPast bs ∷ []) × F
 -- when each bar is given, and when none is
 module _ (own : Own) (lent : List ℕ) (c : Candidate) where
   abbrev pub When11 : Type 0
-  When11 = FirstToHold [] (outOfRange (c .neighbour))
+  When11 = FirstToHold [] (badNumbers own (c .neighbour))
 
   abbrev pub When12 : Type 0
-  When12 = FirstToHold (outOfRange (c .neighbour) ∷ []) (outside lent c)
+  When12 = FirstToHold (badNumbers own (c .neighbour) ∷ []) (outside lent c)
 
   abbrev pub When13 : Type 0
-  When13 = FirstToHold (outOfRange (c .neighbour) ∷ outside lent c ∷ []) (misframed (containerOf lent c))
+  When13 = FirstToHold (badNumbers own (c .neighbour) ∷ outside lent c ∷ []) (misframed (containerOf lent c))
 
   abbrev pub When14 : Type 0
-  When14 = FirstToHold (outOfRange (c .neighbour) ∷ outside lent c ∷ misframed (containerOf lent c) ∷ []) (runsPast (containerOf lent c))
+  When14 = FirstToHold (badNumbers own (c .neighbour) ∷ outside lent c ∷ misframed (containerOf lent c) ∷ []) (runsPast (containerOf lent c))
 
   abbrev pub When15 : (place : ℕ) → Type 0
-  When15 = BarAt lent c [] malformed
+  When15 = BarAt own lent c [] malformed
 
   abbrev pub When16 : (place : ℕ) → Type 0
-  When16 = BarAt lent c (malformed ∷ []) repeated
+  When16 = BarAt own lent c (malformed ∷ []) repeated
 
   abbrev pub When17 : (place : ℕ) → Type 0
-  When17 = BarAt lent c (malformed ∷ repeated ∷ []) misused
+  When17 = BarAt own lent c (malformed ∷ repeated ∷ []) misused
 
   abbrev pub When18 : (place : ℕ) → Type 0
-  When18 = ConstraintAt lent c [] unknownMandatory
+  When18 = ConstraintAt own lent c [] unknownMandatory
 
   abbrev pub When19 : (place : ℕ) → Type 0
-  When19 = ConstraintAt lent c (unknownMandatory ∷ []) (unmet (c .neighbour) (summary (objectsIn (containerOf lent c))))
+  When19 = ConstraintAt own lent c (unknownMandatory ∷ []) (unmet (c .neighbour) (summary (objectsIn (containerOf lent c))))
 
   abbrev pub When20 : Type 0
-  When20 = FirstToHold (barsTo19 lent c) (rankTooHigh own (c .neighbour))
+  When20 = FirstToHold (barsTo19 own lent c) (rankTooHigh own (c .neighbour))
 
   abbrev pub When21 : Type 0
-  When21 = FirstToHold (barsTo19 lent c ++ (rankTooHigh own (c .neighbour) ∷ [])) (aboveLowest own (c .neighbour))
+  When21 = FirstToHold (barsTo19 own lent c ++ (rankTooHigh own (c .neighbour) ∷ [])) (aboveLowest own (c .neighbour))
 
   abbrev pub WhenUnbarred : Type 0
   WhenUnbarred = NoneOf (barsTo21 own lent c)
@@ -138,7 +139,7 @@ pub record VerdictExact (own : Own) (lent : List ℕ) (c : Candidate) (given : V
   pub verdict-19 : (place : ℕ) → (given ≡ Barred 19 place) ↔ When19 own lent c place
   pub verdict-20 : (given ≡ Barred 20 noPlace) ↔ When20 own lent c
   pub verdict-21 : (given ≡ Barred 21 noPlace) ↔ When21 own lent c
-  pub unbarred : (r : Rank) → (given ≡ Unbarred r) ↔ (WhenUnbarred own lent c × (r ≡ record { 0 = resulting own (c .neighbour) }))
+  pub unbarred : (r : Offer) → (given ≡ Unbarred r) ↔ (WhenUnbarred own lent c × (r ≡ offerOf own (c .neighbour)))
 
 -- of every candidate
 abbrev pub VerdictsExact : Type 0

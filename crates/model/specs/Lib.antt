@@ -18,6 +18,7 @@ pub mod ReadBack
 pub mod Counters
 pub mod Colours
 pub mod Local
+pub mod Editions
 pub mod Unknown
 pub mod Samples
 pub mod Examples

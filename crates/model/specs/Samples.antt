@@ -29,9 +29,9 @@ Holds f table = map (λ r. f (r .given)) table ≡ map (λ r. r .said) table
 
 -- ---- own numbers
 
--- own numbers
+-- own numbers, in edition 1
 abbrev pub ownWith : (minhop maxincrease lowest nodetype flags energy current : ℕ) → Own
-ownWith m x l t f e p = record { minhop = m; maxincrease = x; lowest = record { 0 = l }; nodetype = t; flags = f; energy = e; current = p }
+ownWith m x l t f e p = record { minhop = m; maxincrease = x; lowest = record { 0 = l }; nodetype = t; flags = f; energy = e; edition = 1; current = p }
 
 -- MinHopRankIncrease 256, DAGMaxRankIncrease 0, type 0, no flag; energy, L and current parent not given
 abbrev pub own0 : Own
@@ -49,12 +49,16 @@ ownNode t f e = ownWith 256 0 0 t f e 0
 abbrev pub ownCurrent : (position : ℕ) → Own
 ownCurrent p = ownWith 256 0 0 0 0x10 0 p
 
+-- own0 in an edition; flag 0x10: the current parent's position is given
+abbrev pub ownIn : (edition flags current : ℕ) → Own
+ownIn e f p = record { minhop = 256; maxincrease = 0; lowest = record { 0 = 0 }; nodetype = 0; flags = f; energy = 0; edition = e; current = p }
+
 -- ---- a neighbour's numbers
 
 -- a neighbour's numbers, the formula's first
 abbrev pub neighbourWith : (rank rf sp sr nodetype flags energy lql etx latency throughput : ℕ) → Neighbour
 neighbourWith r rf sp sr t f e q x l p =
-    record { rank = record { 0 = r }; sp = sp; rf = rf; sr = sr; nodetype = t; flags = f; energy = e; lql = q; etx = x; latency = l; throughput = p; colour = 0 }
+    record { rank = record { 0 = r }; sp = sp; rf = rf; sr = sr; nodetype = t; flags = f; energy = e; lql = q; etx = x; latency = l; throughput = p; colour = 0; order = 0; preference = 0 }
 
 -- the formula's numbers
 abbrev pub ranked : (rank rf sp sr : ℕ) → Neighbour
@@ -90,7 +94,12 @@ lqlOf v = linkOf 0x00 v 0 0 0
 
 -- a link of this colour
 abbrev pub colourOf : (value : ℕ) → Neighbour
-colourOf v = record { rank = record { 0 = 256 }; sp = 1; rf = 1; sr = 0; nodetype = 0; flags = 0x00; energy = 0; lql = 0; etx = 0; latency = 0; throughput = 0; colour = v }
+colourOf v = record { rank = record { 0 = 256 }; sp = 1; rf = 1; sr = 0; nodetype = 0; flags = 0x00; energy = 0; lql = 0; etx = 0; latency = 0; throughput = 0; colour = v; order = 0; preference = 0 }
+
+-- what edition 2 reads, with a rank, one unit away; flag 0x40: grounded
+abbrev pub sited : (order flags preference rank : ℕ) → Neighbour
+sited o f p r =
+    record { rank = record { 0 = r }; sp = 1; rf = 1; sr = 0; nodetype = 0; flags = f; energy = 0; lql = 0; etx = 0; latency = 0; throughput = 0; colour = 0; order = o; preference = p }
 
 -- ---- bytes
 

@@ -9,6 +9,7 @@ use lib.Dec.{eqb}
 use lib.Count.{ones}
 use Rattle.model.specs.declared.Quantity.the-variants.{Known}
 use Rattle.model.specs.declared.Own.{Own}
+use Rattle.model.specs.declared.Neighbour.{Neighbour}
 use Rattle.model.specs.declared.Candidate.{Candidate}
 use Rattle.model.specs.declared.Answer.{Answer}
 use Rattle.model.specs.Number.{isSet, anyOf}
@@ -28,6 +29,16 @@ unfoldable pub occurrences : (n : ℕ) → List ℕ → ℕ
 occurrences n [] = 0
 occurrences n (m ∷ ms) = cond (eqb m n) 1 0 + occurrences n ms
 
+-- one is not behind another: by the lower interface order, then by flag 0x40, grounded, then by the higher root preference
+pub record NotBehind (c d : Neighbour) : Type 0 where
+  pub by-order : c .order ≤ d .order
+  pub by-ground : c .order ≡ d .order → d .flags / 64 % 2 ≤ c .flags / 64 % 2
+  pub by-root : c .order ≡ d .order → c .flags / 64 % 2 ≡ d .flags / 64 % 2 → d .preference ≤ c .preference
+
+-- in edition 2 two are level where they are equal in these three; in edition 1 any two are
+abbrev pub Level : Own → Neighbour → Neighbour → Type 0
+Level own c d = own .edition ≡ 2 → (c .order ≡ d .order) × (c .flags / 64 % 2 ≡ d .flags / 64 % 2) × (c .preference ≡ d .preference)
+
 -- what holds of the parent that an answer names
 pub record PreferredParent (own : Own) (cs : List Candidate) (lent : List ℕ) (a : Answer) : Type 0 where
   pub candidate : Candidate
@@ -38,13 +49,16 @@ pub record PreferredParent (own : Own) (cs : List Candidate) (lent : List ℕ) (
   pub rank : a .rank .0 ≡ resulting own (candidate .neighbour)
   pub finite : a .rank .0 < infinite
   pub rises : candidate .neighbour .rank .0 < a .rank .0
-  -- no unbarred candidate has a lower resulting rank
-  pub least : (i : ℕ) (d : Candidate) → getElem? cs i ≡ some d → barredByNothing own lent d ≡ true → a .rank .0 ≤ resulting own (d .neighbour)
+  -- in edition 2 it is behind no unbarred candidate by what comes before the rank
+  pub ahead : own .edition ≡ 2 → (i : ℕ) (d : Candidate) → getElem? cs i ≡ some d → barredByNothing own lent d ≡ true → NotBehind (candidate .neighbour) (d .neighbour)
+  -- no unbarred candidate that is level with it has a lower resulting rank
+  pub least : (i : ℕ) (d : Candidate) → getElem? cs i ≡ some d → barredByNothing own lent d ≡ true → Level own (candidate .neighbour) (d .neighbour)
+      → a .rank .0 ≤ resulting own (d .neighbour)
   -- a tie goes to the current parent if it is among them, then to the lower position
-  pub tie-current : (i : ℕ) (d : Candidate) → getElem? cs i ≡ some d → barredByNothing own lent d ≡ true → resulting own (d .neighbour) ≡ a .rank .0
-      → currentOf own ≡ Known i → a .parent ≡ i
-  pub tie-position : (i : ℕ) (d : Candidate) → getElem? cs i ≡ some d → barredByNothing own lent d ≡ true → resulting own (d .neighbour) ≡ a .rank .0
-      → (currentOf own ≡ Known (a .parent) → ⊥) → a .parent ≤ i
+  pub tie-current : (i : ℕ) (d : Candidate) → getElem? cs i ≡ some d → barredByNothing own lent d ≡ true → Level own (candidate .neighbour) (d .neighbour)
+      → resulting own (d .neighbour) ≡ a .rank .0 → currentOf own ≡ Known i → a .parent ≡ i
+  pub tie-position : (i : ℕ) (d : Candidate) → getElem? cs i ≡ some d → barredByNothing own lent d ≡ true → Level own (candidate .neighbour) (d .neighbour)
+      → resulting own (d .neighbour) ≡ a .rank .0 → (currentOf own ≡ Known (a .parent) → ⊥) → a .parent ≤ i
 
 -- what a call reports that is not refused
 pub record Selection (own : Own) (cs : List Candidate) (lent : List ℕ) (a : Answer) : Type 0 where

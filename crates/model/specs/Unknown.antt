@@ -8,7 +8,7 @@ use lib.ListN.{length, drop, getD, getElem?}
 use lib.Dec.{leb, eqb}
 use Rattle.model.specs.declared.Own.{Own}
 use Rattle.model.specs.declared.Candidate.{Candidate}
-use Rattle.model.specs.declared.Rank.{Rank}
+use Rattle.model.specs.declared.Offer.{Offer}
 use Rattle.model.specs.declared.Verdict.the-variants.{Unbarred}
 use Rattle.model.specs.declared.Answer.{Answer}
 use Rattle.model.specs.Number.{anyOf}
@@ -97,7 +97,7 @@ pub record Demand3 (own : Own) (cs cs′ : List Candidate) (lent lent′ : List 
   pub bars : (i : ℕ) (c : Candidate) → getElem? cs i ≡ some c → barredAt r i ≡ barredAt r′ i || holdsUnknown lent c
   -- its resulting rank is the same in both: by the formula, and in the verdict where it is unbarred
   pub ranks : Each (λ c c′. resulting own (c .neighbour) ≡ resulting own (c′ .neighbour)) cs cs′
-  pub unbarred : Each (λ c c′. (k : Rank) → verdict own lent c ≡ Unbarred k → verdict own lent′ c′ ≡ Unbarred k) cs cs′
+  pub unbarred : Each (λ c c′. (k : Offer) → verdict own lent c ≡ Unbarred k → verdict own lent′ c′ ≡ Unbarred k) cs cs′
   -- if no candidate's container holds such a constraint, the answers are the same; if the first passes a container on, so does the
   -- second, and the first's container, once cut, equals the second's byte for byte
   pub same : anyOf (holdsUnknown lent) cs ≡ false → SameAnswers (r .answer) (r′ .answer)

@@ -1,10 +1,11 @@
 -- The verdict on a candidate: bars 11 to 21 in document 01's order.
-use Prim.Native.Nat.{ℕ, zero, suc, _+_}
-use mathlib.Core.Bool.{Bool, true, false, cond, _||_}
+use Prim.Native.Nat.{ℕ, zero, suc, _+_, _-_, _*_, _/_, _%_}
+use mathlib.Core.Bool.{Bool, true, false, cond, _&&_, _||_}
 use mathlib.Core.List.{List, [], _∷_}
 use lib.ListN.{length, take, drop}
-use lib.Dec.{ltb}
+use lib.Dec.{ltb, eqb}
 use Rattle.model.specs.declared.Own.{Own}
+use Rattle.model.specs.declared.Offer.{Offer}
 use Rattle.model.specs.declared.Neighbour.{Neighbour}
 use Rattle.model.specs.declared.Candidate.{Candidate}
 use Rattle.model.specs.declared.Verdict.{Verdict}
@@ -14,9 +15,21 @@ use Rattle.model.specs.Reading.{noPlace, Reading, refused, wellFormed, r
 use Rattle.model.specs.Constraint.{summary, constraintBar}
 use Rattle.model.specs.Rank.{resulting, rankTooHigh, aboveLowest}
 
--- bar 11: Sp outside 1..9, Rf outside 1..4, Sr above 5, LQL above 7, type above 3 or colour above 1023
+-- Sp outside 1..9, Rf outside 1..4, Sr above 5, LQL above 7, type above 3 or colour above 1023
 unfoldable pub outOfRange : Neighbour → Bool
 outOfRange c = ltb (c .sp) 1 || ltb 9 (c .sp) || ltb (c .rf) 1 || ltb 4 (c .rf) || ltb 5 (c .sr) || ltb 7 (c .lql) || ltb 3 (c .nodetype) || ltb 1023 (c .colour)
+
+-- interface order or root preference above 7
+abbrev pub outOfOrder : Neighbour → Bool
+outOfOrder c = ltb 7 (c .order) || ltb 7 (c .preference)
+
+-- the caller names edition 2
+abbrev pub isSecond : Own → Bool
+isSecond own = eqb (own .edition) 2
+
+-- bar 11: numbers out of range, in edition 2 also those that it alone reads
+unfoldable pub badNumbers : Own → Neighbour → Bool
+badNumbers own c = outOfRange c || isSecond own && outOfOrder c
 
 -- a candidate's container in the lent run
 abbrev pub containerOf : (lent : List ℕ) → Candidate → List ℕ
@@ -34,9 +47,22 @@ rankCases own c = 20 when rankTooHigh own c ∷ 21 when aboveLowest own c ∷ []
 unfoldable pub rankBar : Own → Neighbour → ℕ
 rankBar own c = firstCase (rankCases own c)
 
+-- 1 where its DODAG is grounded: flag 0x40
+abbrev pub grounded : Neighbour → ℕ
+grounded c = c .flags / 64 % 2
+
+-- what edition 2 compares before the rank, the lower the better, as digits: interface order, 1 where not grounded, how far root preference is
+-- below 7; in edition 1 nothing
+unfoldable pub aheadOf : Own → Neighbour → ℕ
+aheadOf own c = cond (isSecond own) (c .order * 16 + (1 - grounded c) * 8 + (7 - c .preference)) 0
+
+-- what an unbarred candidate is compared by
+abbrev pub offerOf : Own → Neighbour → Offer
+offerOf own c = record { ahead = aheadOf own c; rank = record { 0 = resulting own c } }
+
 -- past the objects: bars 20 and 21, or unbarred
 abbrev pub judgeRank : Own → Neighbour → (bar : ℕ) → Verdict
-judgeRank own c zero = Unbarred (record { 0 = resulting own c })
+judgeRank own c zero = Unbarred (offerOf own c)
 judgeRank own c (suc n) = Barred (suc n) noPlace
 
 -- the first object's bar of 18 and 19, if there is one
@@ -51,7 +77,7 @@ judgeReading own c (wellFormed os) = judgeObjects own c (firstOf (constraintBar 
 
 -- document 01's verdict: 11 to 14 in order, then the first object with 15, 16 or 17, then the first with 18 or 19, then 20, 21
 unfoldable pub verdict : Own → (lent : List ℕ) → Candidate → Verdict
-verdict own lent c = cond (outOfRange (c .neighbour)) (Barred 11 noPlace) (cond (outside lent c) (Barred 12 noPlace) (judgeReading own (c .neighbour) (reading (containerOf lent c))))
+verdict own lent c = cond (badNumbers own (c .neighbour)) (Barred 11 noPlace) (cond (outside lent c) (Barred 12 noPlace) (judgeReading own (c .neighbour) (reading (containerOf lent c))))
 
 -- the number of a verdict: 10 for an unbarred candidate
 abbrev pub numberOf : Verdict → ℕ

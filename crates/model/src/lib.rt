@@ -25,12 +25,14 @@ pub struct Own {
     pub nodetype: u8,
     pub flags: u8,
     pub energy: u8,
+    // 1, or 2: which criteria select a parent
+    pub edition: u8,
     // the current parent's position
     pub current: usize,
 }
 
 // What is known of a neighbour and the link to it. Flags: 0x01 overloaded, 0x02 aggregator, 0x04 energy is known,
-// 0x08 etx is known, 0x10 latency is known, 0x20 throughput is known.
+// 0x08 etx is known, 0x10 latency is known, 0x20 throughput is known, 0x40 its DODAG is grounded.
 #[repr(C)]
 pub struct Neighbour {
     // the rank it advertised
@@ -51,6 +53,20 @@ pub struct Neighbour {
     pub throughput: u32,
     // ten flag bits
     pub colour: u16,
+    // the order of the interface to it, 0 best, to 7
+    pub order: u8,
+    // the preference of its root, 0 to 7, 7 best
+    pub preference: u8,
+}
+
+// What an unbarred candidate is compared by, the lower the better.
+#[repr(C)]
+pub struct Offer {
+    // what edition 2 compares before the rank, as digits: the interface's order times 16, 8 where its DODAG is not grounded, and how far
+    // its root's preference is below 7; in edition 1 it is 0
+    pub ahead: u8,
+    // its resulting rank
+    pub rank: Rank,
 }
 
 // A candidate: a neighbour, and where its container stands in the lent run.
@@ -72,14 +88,14 @@ pub struct Summary {
 
 // Document 01's verdict: unbarred with the resulting rank, or barred by a number, at the object of index `place`; 65535 for none.
 pub enum Verdict {
-    Unbarred(Rank),
+    Unbarred(Offer),
     Barred { number: u8, place: u16 },
 }
 
 // The preferred parent, where there is one.
 pub enum Choice {
     Nobody,
-    Parent { position: u8, rank: Rank },
+    Parent { position: u8, offer: Offer },
 }
 
 // The answer of a call. No parent is 255, no rank is 65535, no object's place is 65535.

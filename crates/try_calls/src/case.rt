@@ -15,11 +15,11 @@ const WORD: u64 = 4294967295;
 
 const MOST: u64 = 18446744073709551615;
 
-// The limits of minhop, maxincrease, lowest, nodetype, flags, energy, current, room and count.
-const OWN: [u64; 9] = [SHORT, SHORT, SHORT, BYTE, BYTE, BYTE, MOST, 300, MOST];
+// The limits of minhop, maxincrease, lowest, nodetype, flags, energy, edition, current, room and count.
+const OWN: [u64; 10] = [SHORT, SHORT, SHORT, BYTE, BYTE, BYTE, BYTE, MOST, 300, MOST];
 
-// The limits of rank, sp, rf, sr, nodetype, flags, energy, lql, etx, latency, throughput, colour, start and size.
-const CANDIDATE: [u64; 14] = [
+// The limits of rank, sp, rf, sr, nodetype, flags, energy, lql, etx, latency, throughput, colour, order, preference, start and size.
+const CANDIDATE: [u64; 16] = [
     SHORT,
     BYTE,
     BYTE,
@@ -32,6 +32,8 @@ const CANDIDATE: [u64; 14] = [
     WORD,
     WORD,
     SHORT,
+    BYTE,
+    BYTE,
     MOST,
     MOST,
 ];
@@ -52,7 +54,7 @@ struct Candidates {
 }
 
 // The numbers of a row are within the limits of their fields, so that a remainder is the number.
-fn own_of(row: [u64; 9]) -> Own {
+fn own_of(row: [u64; 10]) -> Own {
     Own {
         minhop: (row[0] % 65536) as u16,
         maxincrease: (row[1] % 65536) as u16,
@@ -60,11 +62,12 @@ fn own_of(row: [u64; 9]) -> Own {
         nodetype: (row[3] % 256) as u8,
         flags: (row[4] % 256) as u8,
         energy: (row[5] % 256) as u8,
-        current: row[6] as usize,
+        edition: (row[6] % 256) as u8,
+        current: row[7] as usize,
     }
 }
 
-fn neighbour_of(row: [u64; 14]) -> Neighbour {
+fn neighbour_of(row: [u64; 16]) -> Neighbour {
     Neighbour {
         rank: Rank((row[0] % 65536) as u16),
         sp: (row[1] % 256) as u8,
@@ -78,14 +81,16 @@ fn neighbour_of(row: [u64; 14]) -> Neighbour {
         latency: (row[9] % 4294967296) as u32,
         throughput: (row[10] % 4294967296) as u32,
         colour: (row[11] % 65536) as u16,
+        order: (row[12] % 256) as u8,
+        preference: (row[13] % 256) as u8,
     }
 }
 
-fn candidate_of(row: [u64; 14]) -> Candidate {
+fn candidate_of(row: [u64; 16]) -> Candidate {
     Candidate {
         neighbour: neighbour_of(row),
-        start: row[12] as usize,
-        size: row[13] as usize,
+        start: row[14] as usize,
+        size: row[15] as usize,
     }
 }
 
@@ -106,7 +111,7 @@ fn read_candidates(text: &[u8], from: usize, count: usize) -> Candidates
 {
     let n = shown(count);
     let limits = CANDIDATE;
-    let mut row = [0u64; 14];
+    let mut row = [0u64; 16];
     let mut list = [candidate_of(row); 16];
     let mut at = from;
     let mut i = 0;
@@ -127,16 +132,16 @@ pub(crate) fn read(line: &[u8], from: usize) -> Case
     ensures { λ r. ⌜ (r .room ≤ 300) × (r .next ≤ length (now (line .entry))) ⌝ }
 {
     let limits = OWN;
-    let mut row = [0u64; 9];
+    let mut row = [0u64; 10];
     let at = fields::numbers(line, from, &limits, &mut row);
-    let count = row[8] as usize;
+    let count = row[9] as usize;
     let given = read_candidates(line, at, count);
     let candidates = given.list;
     Case {
         own: own_of(row),
         candidates,
         count,
-        room: (row[7] % 301) as usize,
+        room: (row[8] % 301) as usize,
         next: given.next,
     }
 }

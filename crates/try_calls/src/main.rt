@@ -1,7 +1,7 @@
 // Runs `choice::call` on the cases of its input, one to a line, and writes a line for each.
-// A case: NAME minhop maxincrease lowest nodetype flags energy current room count, then for each candidate (16 at most stand on
-// the line, whatever the count) rank sp rf sr nodetype flags energy lql etx latency throughput colour start size, then the bytes of
-// the lent run. One space is between two words; numbers are decimal, bytes two hexadecimal digits. The numbers are the fields of `Own`
+// A case: NAME minhop maxincrease lowest nodetype flags energy edition current room count, then for each candidate (16 at most stand on
+// the line, whatever the count) rank sp rf sr nodetype flags energy lql etx latency throughput colour order preference start size, then
+// the bytes of the lent run. One space is between two words; numbers are decimal, bytes two hexadecimal digits. The numbers are the fields of `Own`
 // and `Candidate`; room is the length of the lent output, 300 at most, whose bytes are all 0xEE before the call.
 // The answer: NAME refusal parent rank bits count leaf size, `verdicts` and those of the candidates on the line, each with `@` and
 // its place if it has one, `beyond` if any other verdict or place is set, `output` and the first `size` bytes of the output, then

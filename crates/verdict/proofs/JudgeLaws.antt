@@ -18,7 +18,7 @@ use Rattle.model.specs.Number.{anyOf, firstOf}
 use Rattle.model.specs.Object.{Object}
 use Rattle.model.specs.Reading.{noPlace, Reading, refused, wellFormed, reading}
 use Rattle.model.specs.Constraint.{summary, constraintBar, mandatory}
-use Rattle.model.specs.Verdict.{outOfRange, rankBar, judgeRank, judgeObjects, judgeReading, verdict}
+use Rattle.model.specs.Verdict.{badNumbers, rankBar, judgeRank, judgeObjects, judgeReading, verdict}
 use Rattle.model.proofs.BoolLaws.{neither}
 use Rattle.model.proofs.FirstLaws.{index-none}
 use Rattle.wire.specs.Reading.{hopsOf, toldOf, readingOf}
@@ -100,15 +100,15 @@ module _ (own : Own) (c : Neighbour) (x : Reading) (n : ℕ) (k : Bool) (t : Tol
 -- ---- bars 11 and 12
 
 module _ (own : Own) (lent : List ℕ) (c : Candidate) where
-  pub judged-11 : outOfRange (c .neighbour) ≡ true → Barred 11 noPlace ≡ verdict own lent c
+  pub judged-11 : badNumbers own (c .neighbour) ≡ true → Barred 11 noPlace ≡ verdict own lent c
   unfolding verdict
   judged-11 e = rw e
 
-  pub judged-12 : outOfRange (c .neighbour) ≡ false → length lent < c .start + c .size → Barred 12 noPlace ≡ verdict own lent c
+  pub judged-12 : badNumbers own (c .neighbour) ≡ false → length lent < c .start + c .size → Barred 12 noPlace ≡ verdict own lent c
   unfolding verdict
   judged-12 e l = rw (e, lt-ltb (length lent) (c .start + c .size) l)
 
-  pub judged-inside : outOfRange (c .neighbour) ≡ false → c .start + c .size ≤ length lent
+  pub judged-inside : badNumbers own (c .neighbour) ≡ false → c .start + c .size ≤ length lent
       → judgeReading own (c .neighbour) (reading (take (c .start + c .size - c .start) (drop (c .start) lent))) ≡ verdict own lent c
   unfolding verdict
   judged-inside e l = rw (e, le-ltb (length lent) (c .start + c .size) l, add-sub-cancel-left (c .start) (c .size))

@@ -1,4 +1,5 @@
 pub mod PassLaws
 pub mod JudgeLaws
+pub mod AheadLaws
 pub mod GrowthLaws
 pub mod HoldLaws

@@ -1,2 +1,3 @@
 pub mod Judged
 pub mod Growth
+pub mod Ahead

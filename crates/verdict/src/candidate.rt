@@ -4,9 +4,10 @@ ghost use mathlib.Core.List.{List};
 ghost use Rattle.model.specs.Object.{Object};
 ghost use Rattle.model.specs.Reading.{reading, wellFormed};
 ghost use Rattle.model.specs.Constraint.{summary};
-ghost use Rattle.model.specs.Verdict.{outOfRange, judgeReading, verdict};
+ghost use Rattle.model.specs.Verdict.{outOfRange, aheadOf, judgeReading, verdict};
 ghost use Rattle.wire.specs.Reading.{toldOf};
 ghost use Rattle.verdict.specs.Judged.{WellFormed, ReadAs, BarsFirst};
+use crate::ahead;
 use crate::constraints;
 use crate::rank;
 use model::Candidate;
@@ -25,7 +26,7 @@ pub struct Barring {
     pub place: u16,
 }
 
-// Bar 11.
+// Bar 11, by the numbers that both editions read.
 fn is_out_of_range(neighbour: Neighbour) -> bool
     ensures { λ r. ⌜ r ≡ outOfRange neighbour ⌝ }
 {
@@ -121,8 +122,9 @@ fn barring_of(
     first_barring(neighbour, summary_of(told), container)
 }
 
-// The verdict on a candidate past bars 11 and 12, by its container.
-fn judge_container(own: Own, neighbour: Neighbour, container: &[u8]) -> Verdict
+// The verdict on a candidate past bars 11 and 12, by its container, with what is compared before the rank.
+fn judge_container(own: Own, neighbour: Neighbour, ahead: u8, container: &[u8]) -> Verdict
+    requires { ⌜ ahead ≡ aheadOf own neighbour ⌝ }
     ensures { λ r. ⌜ r ≡ judgeReading own neighbour (reading (now (container .entry))) ⌝ }
 {
     match wire::read(container) {
@@ -139,7 +141,7 @@ fn judge_container(own: Own, neighbour: Neighbour, container: &[u8]) -> Verdict
                     place: barring.place,
                 };
             }
-            rank::judge_rank(own, neighbour)
+            rank::judge_rank(own, neighbour, ahead)
         }
     }
 }
@@ -150,6 +152,13 @@ pub fn judge(own: Own, candidate: Candidate, lent: &[u8]) -> Verdict
 {
     let neighbour = candidate.neighbour;
     if is_out_of_range(neighbour) {
+        return Verdict::Barred {
+            number: 11,
+            place: 65535,
+        };
+    }
+    let ahead = ahead::ahead_of(own, neighbour);
+    if ahead == ahead::OUT_OF_ORDER {
         return Verdict::Barred {
             number: 11,
             place: 65535,
@@ -169,5 +178,5 @@ pub fn judge(own: Own, candidate: Candidate, lent: &[u8]) -> Verdict
             place: 65535,
         };
     }
-    judge_container(own, neighbour, &lent[start..start + size])
+    judge_container(own, neighbour, ahead, &lent[start..start + size])
 }

@@ -1,4 +1,5 @@
 // The verdict on one candidate: bars 11 and 12, the reading of its container, and bars 18 to 21.
+mod ahead;
 mod candidate;
 mod constraints;
 mod rank;

@@ -3,9 +3,10 @@ ghost use mathlib.Core.Path.{_≡_};
 ghost use Prim.Native.Nat.{_+_, _≤_};
 ghost use Rattle.model.specs.declared.Neighbour.{Neighbour};
 ghost use Rattle.model.specs.Rank.{unitsOf, grown, resulting, aboveLowest};
-ghost use Rattle.model.specs.Verdict.{rankBar, judgeRank};
+ghost use Rattle.model.specs.Verdict.{aheadOf, rankBar, judgeRank};
 ghost use Rattle.verdict.specs.Growth.{growthOf};
 use model::Neighbour;
+use model::Offer;
 use model::Own;
 use model::Rank;
 use model::Units;
@@ -51,8 +52,9 @@ fn is_above_lowest(own: Own, rank: Rank) -> bool
     (own.maxincrease != 0) & (own.flags / 8 % 2 == 1) & (highest(own) < (rank.0 as u32))
 }
 
-// Bars 20 and 21, or unbarred. An advertised rank of 65535 results in 65535 or more.
-pub(crate) fn judge_rank(own: Own, neighbour: Neighbour) -> Verdict
+// Bars 20 and 21, or unbarred, with what is compared before the rank. An advertised rank of 65535 results in 65535 or more.
+pub(crate) fn judge_rank(own: Own, neighbour: Neighbour, ahead: u8) -> Verdict
+    requires { ⌜ ahead ≡ aheadOf own neighbour ⌝ }
     ensures { λ r. ⌜ r ≡ judgeRank own neighbour (rankBar own neighbour) ⌝ }
 {
     match grow(neighbour.rank, units_of(neighbour), own.minhop) {
@@ -67,7 +69,7 @@ pub(crate) fn judge_rank(own: Own, neighbour: Neighbour) -> Verdict
                     place: 65535,
                 };
             }
-            Verdict::Unbarred(rank)
+            Verdict::Unbarred(Offer { ahead, rank })
         }
     }
 }

@@ -1,7 +1,7 @@
 //! The choice of a parent.
 
-use super::{Trial, NEIGHBOUR, OWN};
-use crate::reference::data::{Candidate, Neighbour, CANDIDATES, CURRENT_GIVEN, NO_PARENT};
+use super::{with_current, Trial, NEIGHBOUR, OWN};
+use crate::reference::data::{Candidate, Neighbour, CANDIDATES, NO_PARENT};
 
 /// Three candidates of these ranks, each one unit away, the current position, and the parent.
 const CHOICES: &[([u16; 3], Option<usize>, u8)] = &[
@@ -16,11 +16,7 @@ const CHOICES: &[([u16; 3], Option<usize>, u8)] = &[
 
 pub fn hold(trial: &mut Trial) {
     for &(ranks, current, parent) in CHOICES {
-        let mut own = OWN;
-        if let Some(current) = current {
-            own.current = current;
-            own.flags |= CURRENT_GIVEN;
-        }
+        let own = with_current(OWN, current);
         let mut candidates = [Candidate::default(); CANDIDATES];
         let mut bits = 0;
         for (index, rank) in ranks.into_iter().enumerate() {

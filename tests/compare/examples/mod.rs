@@ -5,6 +5,7 @@ mod bars;
 mod choices;
 mod colours;
 mod cuts;
+mod editions;
 mod hops;
 mod leaves;
 mod listings;
@@ -24,6 +25,7 @@ const OWN: Own = Own {
     nodetype: 1,
     flags: AGGREGATOR | ENERGY_KNOWN,
     energy: 100,
+    edition: FIRST_EDITION,
     current: 0,
 };
 
@@ -42,6 +44,8 @@ const NEIGHBOUR: Neighbour = Neighbour {
     latency: 1000,
     throughput: 0,
     colour: 515,
+    order: 0,
+    preference: 0,
 };
 
 /// Either implementation, and what of it does not hold, a line each.
@@ -78,6 +82,7 @@ pub fn failed() -> Vec<String> {
         leaves::hold(trial);
         hops::hold(trial);
         choices::hold(trial);
+        editions::hold(trial);
         listings::hold(trial);
     }
     let [reference, library] = trials.map(|trial| trial.failed);
@@ -106,6 +111,18 @@ impl Trial {
             let line = format!("{name}: {program} gives {given:?}, not {expected:?}");
             self.failed.push(line);
         }
+    }
+}
+
+/// Own numbers with this current parent, if any.
+fn with_current(own: Own, current: Option<usize>) -> Own {
+    match current {
+        Some(current) => Own {
+            current,
+            flags: own.flags | CURRENT_GIVEN,
+            ..own
+        },
+        None => own,
     }
 }
 

@@ -3,9 +3,14 @@
 use super::{Trial, BEFORE, OWN};
 use crate::reference::data::{Answer, Candidate, Own, CANDIDATES, CURRENT_GIVEN};
 
+/// Own numbers of an edition.
+const fn edition(edition: u8) -> Own {
+    Own { edition, ..OWN }
+}
+
 const CURRENT: Own = Own {
     flags: CURRENT_GIVEN,
-    ..OWN
+    ..edition(3)
 };
 const PAST: Own = Own {
     current: 1,
@@ -26,9 +31,23 @@ const REFUSALS: &[(Own, usize, usize, u8)] = &[
     (PAST, 1, 0, 3),
     (CURRENT, 0, 257, 3),
     (CURRENT, 1, 256, 4),
-    (OWN, 0, 0, 4),
-    (OWN, 0, 257, 0),
-    (OWN, 16, 300, 0),
+    (CURRENT, 1, 257, 5),
+    (edition(0), 0, 0, 4),
+    (edition(0), 0, 257, 5),
+    (edition(0), 16, 300, 5),
+    (edition(1), 0, 0, 4),
+    (edition(1), 0, 257, 0),
+    (edition(1), 16, 300, 0),
+    (edition(2), 0, 0, 4),
+    (edition(2), 0, 257, 0),
+    (edition(2), 16, 300, 0),
+    (edition(3), 0, 257, 5),
+    (edition(4), 0, 257, 5),
+    (edition(128), 0, 257, 5),
+    (edition(129), 0, 257, 5),
+    (edition(130), 0, 257, 5),
+    (edition(255), 0, 256, 4),
+    (edition(255), 0, 257, 5),
 ];
 
 pub fn hold(trial: &mut Trial) {

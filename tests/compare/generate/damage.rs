@@ -1,5 +1,6 @@
 //! A valid call with one byte or one field damaged.
 
+use super::numbers::other_edition;
 use super::{pattern, Call};
 use crate::random::Random;
 use crate::reference::data::{Candidate, CANDIDATES, CURRENT_GIVEN};
@@ -37,7 +38,7 @@ fn some_candidate(random: &mut Random, call: &Call) -> Option<Candidate> {
 
 /// Changes one field: of own numbers, of the call, or of a candidate.
 pub fn field(random: &mut Random, call: &mut Call) {
-    match random.below(12) {
+    match random.below(13) {
         0 => call.own.minhop = 0,
         1 => call.own.nodetype = random.pick(&[4, 5, 128, 255]),
         2 => call.count = random.pick(&[17, 17, 18, 255, 256, 1 << 16, 1 << 32, usize::MAX]),
@@ -46,14 +47,7 @@ pub fn field(random: &mut Random, call: &mut Call) {
             let room = random.pick(&[0, 1, 255, 256, 256, 200]);
             call.out = pattern(random, room);
         }
-        // two at once, so that the order of refusals counts
-        5 => {
-            current(random, call);
-            call.out.truncate(random.below(300));
-            if random.once_in(2) {
-                call.count = random.within(0, 17);
-            }
-        }
+        5 => several(random, call),
         6 => {
             let keep = call.lent.len().saturating_sub(random.within(1, 3));
             call.lent.truncate(keep);
@@ -64,11 +58,12 @@ pub fn field(random: &mut Random, call: &mut Call) {
                 number(random, candidate);
             }
         }
+        8 => edition(random, call),
         kind => {
             let count = call.count.clamp(1, CANDIDATES);
             let candidate = &mut call.candidates[random.below(count)];
             match kind {
-                8 | 9 => number(random, candidate),
+                9 | 10 => number(random, candidate),
                 _ => place(random, candidate, call.lent.len()),
             }
         }
@@ -82,10 +77,33 @@ fn current(random: &mut Random, call: &mut Call) {
     call.own.current = random.pick(&[beyond, beyond, 16, 255, 256, 1 << 32, usize::MAX]);
 }
 
+/// Two or more fields at once, so that the order of refusals counts.
+fn several(random: &mut Random, call: &mut Call) {
+    current(random, call);
+    call.out.truncate(random.below(300));
+    if random.once_in(2) {
+        call.count = random.within(0, 17);
+    }
+    if random.once_in(2) {
+        call.own.edition = other_edition(random);
+    }
+}
+
+/// An edition that there is not, sometimes beside what refuses a call before it.
+fn edition(random: &mut Random, call: &mut Call) {
+    call.own.edition = other_edition(random);
+    match random.below(16) {
+        0 => call.own.minhop = 0,
+        1 => call.count = random.within(17, 18),
+        2..=4 => call.out.truncate(random.below(300)),
+        _ => {}
+    }
+}
+
 /// A neighbour's number out of range, or at the edge of it.
 fn number(random: &mut Random, candidate: &mut Candidate) {
     let neighbour = &mut candidate.neighbour;
-    match random.below(9) {
+    match random.below(11) {
         0 => neighbour.sp = random.pick(&[0, 1, 9, 10, 255]),
         1 => neighbour.rf = random.pick(&[0, 1, 4, 5, 255]),
         2 => neighbour.sr = random.pick(&[5, 6, 255]),
@@ -97,6 +115,8 @@ fn number(random: &mut Random, candidate: &mut Candidate) {
             let above = neighbour.colour | 1 << random.within(10, 15);
             neighbour.colour = random.pick(&[0, 1023, 1024, 65535, above, above]);
         }
+        8 => neighbour.order = random.pick(&[0, 7, 8, 255]),
+        9 => neighbour.preference = random.pick(&[0, 7, 8, 255]),
         _ => neighbour.rank = random.edgy_word(),
     }
 }
@@ -107,9 +127,9 @@ fn place(random: &mut Random, candidate: &mut Candidate, lent: usize) {
     let complement = usize::MAX - candidate.start;
     match random.below(8) {
         0 => candidate.start = candidate.start.wrapping_sub(1),
-        1 => candidate.start += 1,
+        1 => candidate.start = candidate.start.wrapping_add(1),
         2 => candidate.size = candidate.size.wrapping_sub(1),
-        3 => candidate.size += 1,
+        3 => candidate.size = candidate.size.wrapping_add(1),
         4 => {
             candidate.start = lent + random.below(2);
             candidate.size = random.below(2);

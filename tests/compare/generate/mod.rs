@@ -8,8 +8,10 @@ mod loose;
 mod numbers;
 mod object;
 mod record;
+mod rivals;
 mod scene;
 mod shared;
+mod site;
 mod wellformed;
 
 use super::random::Random;
@@ -17,6 +19,7 @@ use super::reference::data::{Candidate, Own, CANDIDATES, CURRENT_GIVEN};
 
 pub use layout::lay;
 use scene::Scene;
+pub use site::set_any_site;
 
 /// All that one call is given; `out` is the pattern that the output holds before it.
 #[derive(Clone)]
@@ -77,6 +80,9 @@ fn ordered(random: &mut Random, loose: usize) -> Call {
         } else {
             wellformed::container(random, &scene, &own, &candidate.neighbour)
         });
+    }
+    if random.once_in(4) {
+        rivals::meet(random, &mut own, &mut candidates[..count]);
     }
     let lent = lay(random, &containers, &mut candidates[..count]);
     let any = random.within(257, 300);

@@ -3,7 +3,9 @@
 use super::colour::colour;
 use super::scene::Scene;
 use crate::random::Random;
-use crate::reference::data::{Candidate, Neighbour, Own, CANDIDATES};
+use crate::reference::data::{
+    Candidate, Neighbour, Own, CANDIDATES, FIRST_EDITION, SECOND_EDITION,
+};
 
 /// How many candidates a valid call has.
 pub fn count(random: &mut Random) -> usize {
@@ -23,6 +25,7 @@ pub fn own(random: &mut Random) -> Own {
         nodetype: random.below(4) as u8,
         flags: mostly_known(random),
         energy: random.edgy_byte(),
+        edition: random.pick(&[FIRST_EDITION, SECOND_EDITION]),
         current: 0,
     }
 }
@@ -47,6 +50,7 @@ pub fn neighbour(random: &mut Random, own: &Own, scene: &Scene) -> Neighbour {
     neighbour.flags = mostly_known(random);
     neighbour.lql = random.below(8) as u8;
     neighbour.colour = colour(random);
+    scene.site.set(random, own.edition, &mut neighbour);
     neighbour
 }
 
@@ -86,6 +90,8 @@ pub fn any_neighbour(random: &mut Random) -> Neighbour {
         latency: random.edgy_long(),
         throughput: random.edgy_long(),
         colour: random.edgy_word(),
+        order: random.edgy_byte(),
+        preference: random.edgy_byte(),
     }
 }
 
@@ -99,7 +105,16 @@ pub fn any_own(random: &mut Random) -> Own {
         2 => own.current = random.edgy_size(),
         _ => own.minhop = own.minhop.max(1),
     }
+    if random.once_in(4) {
+        own.edition = other_edition(random);
+    }
     own
+}
+
+/// An edition that there is not, but for few.
+pub fn other_edition(random: &mut Random) -> u8 {
+    let any = random.byte();
+    random.pick(&[0, 3, 255, any])
 }
 
 /// Sixteen candidates out of range; those past the count keep these numbers.

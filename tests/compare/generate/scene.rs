@@ -1,6 +1,7 @@
 //! What the containers and numbers of one call have in common, so that each kind of answer is
 //! reached often: a container that is passed on needs everything in it to be in order.
 
+use super::site::Site;
 use crate::random::Random;
 use crate::reference::data::Own;
 
@@ -34,6 +35,8 @@ pub struct Scene {
     pub length: Length,
     /// The resulting rank that many neighbours share.
     pub target: u32,
+    /// What edition 2 compares before it.
+    pub site: Site,
 }
 
 impl Scene {
@@ -48,6 +51,7 @@ impl Scene {
             passing: !random.once_in(3),
             length: random.pick(&lengths),
             target: target(random, own),
+            site: Site::draw(random),
         }
     }
 }

@@ -1,8 +1,9 @@
 //! The whole call: refusals, a verdict on each candidate, the preferred parent, its container.
 
 use super::container::Container;
-use super::data::{Answer, Candidate, Own, CANDIDATES};
+use super::data::{Answer, Candidate, Own, CANDIDATES, FIRST_EDITION, SECOND_EDITION};
 use super::hop::Hop;
+use super::standing::Standing;
 use super::verdict::verdict;
 
 /// The shortest output that is never too short: a container of 255 data bytes.
@@ -13,8 +14,7 @@ const UNBARRED: u8 = 10;
 
 /// The preferred parent so far.
 struct Parent<'a> {
-    position: usize,
-    rank: u16,
+    standing: Standing,
     container: Container<'a>,
 }
 
@@ -33,11 +33,12 @@ pub fn choose(
     let Some(parent) = preferred(&own, &candidates[..count], lent, &mut answer) else {
         return answer;
     };
-    answer.parent = parent.position as u8;
-    answer.rank = parent.rank;
+    let Standing { position, rank, .. } = parent.standing;
+    answer.parent = position as u8;
+    answer.rank = rank;
     let hop = Hop {
         own: &own,
-        link: &candidates[parent.position].neighbour,
+        link: &candidates[position].neighbour,
     };
     match hop.pass_on(&parent.container, out) {
         Ok(size) => answer.size = size,
@@ -56,20 +57,21 @@ fn refusal(own: &Own, count: usize, room: usize) -> u8 {
         3
     } else if room < OUTPUT {
         4
+    } else if !matches!(own.edition, FIRST_EDITION | SECOND_EDITION) {
+        5
     } else {
         0
     }
 }
 
-/// The unbarred candidate of least rank; a tie goes to the current parent, then to the lower
-/// position. Verdicts, bits and their count go into the answer.
+/// The unbarred candidate that stands before all others. Verdicts, bits and their count go into
+/// the answer.
 fn preferred<'a>(
     own: &Own,
     candidates: &[Candidate],
     lent: &'a [u8],
     answer: &mut Answer,
 ) -> Option<Parent<'a>> {
-    let current = own.current();
     let mut best: Option<Parent> = None;
     for (position, candidate) in candidates.iter().enumerate() {
         let (rank, container) = match verdict(own, candidate, lent) {
@@ -82,13 +84,10 @@ fn preferred<'a>(
         };
         answer.verdicts[position] = UNBARRED;
         answer.bits |= 1 << position;
-        let better = best
-            .as_ref()
-            .is_none_or(|best| rank < best.rank || rank == best.rank && current == Some(position));
-        if better {
+        let standing = Standing::new(own, &candidate.neighbour, rank, position);
+        if best.as_ref().is_none_or(|best| standing < best.standing) {
             best = Some(Parent {
-                position,
-                rank,
+                standing,
                 container,
             });
         }

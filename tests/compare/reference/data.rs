@@ -5,6 +5,10 @@ pub const NO_PARENT: u8 = 255;
 pub const NO_RANK: u16 = 65535;
 pub const NO_PLACE: u16 = 65535;
 
+/// The editions: by what unbarred candidates are compared.
+pub const FIRST_EDITION: u8 = 1;
+pub const SECOND_EDITION: u8 = 2;
+
 /// Flags of own numbers and of a neighbour; the first two are the bits of the NSA body.
 pub const OVERLOADED: u8 = 0x01;
 pub const AGGREGATOR: u8 = 0x02;
@@ -16,6 +20,7 @@ pub const CURRENT_GIVEN: u8 = 0x10;
 pub const ETX_KNOWN: u8 = 0x08;
 pub const LATENCY_KNOWN: u8 = 0x10;
 pub const THROUGHPUT_KNOWN: u8 = 0x20;
+pub const GROUNDED: u8 = 0x40;
 
 #[repr(C)]
 #[derive(Clone, Copy, Debug, Default, PartialEq, Eq)]
@@ -26,6 +31,7 @@ pub struct Own {
     pub nodetype: u8,
     pub flags: u8,
     pub energy: u8,
+    pub edition: u8,
     pub current: usize,
 }
 
@@ -59,6 +65,8 @@ pub struct Neighbour {
     pub latency: u32,
     pub throughput: u32,
     pub colour: u16,
+    pub order: u8,
+    pub preference: u8,
 }
 
 impl Neighbour {
@@ -76,6 +84,10 @@ impl Neighbour {
 
     pub fn throughput(&self) -> Option<u32> {
         (self.flags & THROUGHPUT_KNOWN != 0).then_some(self.throughput)
+    }
+
+    pub fn grounded(&self) -> bool {
+        self.flags & GROUNDED != 0
     }
 }
 

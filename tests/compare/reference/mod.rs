@@ -13,6 +13,7 @@ mod listing;
 mod object;
 pub mod rank;
 mod reserved;
+mod standing;
 mod verdict;
 
 pub use call::choose;

@@ -3,8 +3,12 @@
 use super::colour::HIGHEST;
 use super::constraint::met;
 use super::container::{Bar, Container};
-use super::data::{Candidate, Neighbour, Own};
+use super::data::{Candidate, Neighbour, Own, SECOND_EDITION};
 use super::rank::allowed;
+
+/// The highest interface order, and the highest root preference.
+const HIGHEST_ORDER: u8 = 7;
+const HIGHEST_PREFERENCE: u8 = 7;
 
 /// Bars 11 to 21 in document 01's order.
 pub fn verdict<'a>(
@@ -13,7 +17,7 @@ pub fn verdict<'a>(
     lent: &'a [u8],
 ) -> Result<(u16, Container<'a>), Bar> {
     let neighbour = &candidate.neighbour;
-    if !in_range(neighbour) {
+    if !in_range(own.edition, neighbour) {
         return Err(Bar::whole(11));
     }
     let container = Container::read(part(candidate, lent).ok_or(Bar::whole(12))?)?;
@@ -26,13 +30,16 @@ pub fn verdict<'a>(
     }
 }
 
-fn in_range(neighbour: &Neighbour) -> bool {
+/// Bar 11 does not hold: what edition 2 compares first has a range in edition 2 only.
+fn in_range(edition: u8, neighbour: &Neighbour) -> bool {
     (1..=9).contains(&neighbour.sp)
         && (1..=4).contains(&neighbour.rf)
         && neighbour.sr <= 5
         && neighbour.lql <= 7
         && neighbour.nodetype <= 3
         && neighbour.colour <= HIGHEST
+        && (edition != SECOND_EDITION
+            || neighbour.order <= HIGHEST_ORDER && neighbour.preference <= HIGHEST_PREFERENCE)
 }
 
 /// The candidate's part of the lent run, if it lies inside; a sum beyond 64 bits does not.

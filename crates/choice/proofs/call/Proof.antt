@@ -86,8 +86,8 @@ loop-again c =
     let at-loop = judged .before .before in
     pass-barred _ (at-loop .before .loop .inv) (at-loop .loop-test .taken) (judged .judge .ensures) (c .before .number .given .1)
 
-enum-known-rank : tie.Need-enum-known-rank Inv-loop μ-loop
-enum-known-rank c = search needs
+enum-known-offer : tie.Need-enum-known-offer Inv-loop μ-loop
+enum-known-offer c = search needs
 
 array-write-numbers-2 : tie.Need-array-write-numbers-2 Inv-loop μ-loop
 array-write-numbers-2 c = omega arith
@@ -111,7 +111,7 @@ loop-again-2 : tie.Need-loop-again-2 Inv-loop μ-loop
 loop-again-2 c =
     let judged = c .before .before .before .before .before in
     let at-loop = judged .before .before in
-    pass-unbarred _ (at-loop .before .loop .inv) (at-loop .loop-test .taken) (judged .judge .ensures) (c .before .before .before .rank .given .1) (c .before .bit-at .ensures) (c .better .ensures)
+    pass-unbarred _ (at-loop .before .loop .inv) (at-loop .loop-test .taken) (judged .judge .ensures) (c .before .before .before .offer .given .1) (c .before .bit-at .ensures) (c .better .ensures)
 
 enum-told : tie.Need-enum-told Inv-loop μ-loop
 enum-told c = search needs
@@ -188,7 +188,7 @@ call-spec =
     add-i
     loop-less
     loop-again
-    enum-known-rank
+    enum-known-offer
     array-write-numbers-2
     bit-at-requires
     cast-better

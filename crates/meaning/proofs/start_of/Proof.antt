@@ -17,10 +17,10 @@ use Rattle.meaning.proofs.start_of.Tie as tie
 -- the rows of the code's table
 abbrev starts : List (List ℕ)
 starts =
-    (0 ∷ 80 ∷ 138 ∷ 161 ∷ 228 ∷ 264 ∷ 264 ∷ 264 ∷ 264 ∷ 264 ∷ []) ∷
-    (264 ∷ 272 ∷ 361 ∷ 403 ∷ 485 ∷ 546 ∷ 628 ∷ 703 ∷ 769 ∷ 807 ∷ []) ∷
-    (840 ∷ 908 ∷ 986 ∷ 986 ∷ 986 ∷ 986 ∷ 986 ∷ 986 ∷ 986 ∷ 986 ∷ []) ∷
-    (986 ∷ 986 ∷ 1022 ∷ 1082 ∷ 1168 ∷ 1196 ∷ 1259 ∷ 1332 ∷ 1332 ∷ 1332 ∷ []) ∷
+    (0 ∷ 80 ∷ 138 ∷ 161 ∷ 228 ∷ 264 ∷ 289 ∷ 289 ∷ 289 ∷ 289 ∷ []) ∷
+    (289 ∷ 297 ∷ 395 ∷ 437 ∷ 519 ∷ 580 ∷ 662 ∷ 737 ∷ 803 ∷ 841 ∷ []) ∷
+    (874 ∷ 942 ∷ 1020 ∷ 1020 ∷ 1020 ∷ 1020 ∷ 1020 ∷ 1020 ∷ 1020 ∷ 1020 ∷ []) ∷
+    (1020 ∷ 1020 ∷ 1056 ∷ 1116 ∷ 1202 ∷ 1230 ∷ 1293 ∷ 1366 ∷ 1366 ∷ 1366 ∷ []) ∷
     []
 
 abbrev startOf : ℕ → ℕ
@@ -34,11 +34,11 @@ unfolding wordsBefore meaning codesFrom wordsIn table right
 starts-right n h = eqb-true (startOf n) (length (wordsBefore n)) (at-each right 38 n refl (omega arith))
 
 few : ℕ → Bool
-few n = leb (startOf n) 1332
+few n = leb (startOf n) 1366
 
-starts-few : (n : ℕ) → n ≤ 37 → startOf n ≤ 1332
+starts-few : (n : ℕ) → n ≤ 37 → startOf n ≤ 1366
 unfolding few
-starts-few n h = leb-true (startOf n) 1332 (at-each few 38 n refl (omega arith))
+starts-few n h = leb-true (startOf n) 1366 (at-each few 38 n refl (omega arith))
 
 mul-result : tie.Need-mul-result
 mul-result c = search needs

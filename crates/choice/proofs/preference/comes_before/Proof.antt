@@ -1,12 +1,24 @@
--- `comes_before` meets its contract: the first criterion on which the two differ decides.
+-- `comes_before` meets its contract: the first criterion on which the two differ decides, those before it being the same.
 use mathlib.Core.Path.{sym, _∙_}
 use borrow.Author.Needs.{needs}
+use Rattle.model.specs.Choice.{currentOf}
 use Rattle.model.proofs.ChoosingLaws.{precedes-differ, precedes-same, precedes-last}
+use Rattle.model.proofs.OfferLaws.{by-offers}
 use Rattle.choice.proofs.preference.comes_before.Statement.{statement}
 use Rattle.choice.proofs.preference.comes_before.Tie as tie
 
 returns : tie.Need-returns
-returns c = precedes-differ _ _ _ _ (c .before .before .if1 .taken)
+returns c =
+    let args = c .before .before .before .before .before .args in
+    precedes-differ _ _ _ _ (c .before .before .if1 .taken) ∙ by-offers (currentOf (args .own)) (args .position) (args .other) (args .offer) (args .than)
+
+returns-2 : tie.Need-returns-2
+returns-2 c =
+    let rank = c .before .before in
+    let ahead = rank .before .before .before in
+    let args = ahead .before .before .before .args in
+    precedes-differ _ _ _ _ (rank .if2 .taken) ∙ precedes-same _ _ _ _ (ahead .if1 .left)
+    ∙ by-offers (currentOf (args .own)) (args .position) (args .other) (args .offer) (args .than)
 
 not-current-requires : tie.Need-not-current-requires
 not-current-requires c κs = search needs
@@ -14,18 +26,27 @@ not-current-requires c κs = search needs
 not-current-requires-2 : tie.Need-not-current-requires-2
 not-current-requires-2 c κs = search needs
 
-returns-2 : tie.Need-returns-2
-returns-2 c =
-    let a = c .before .before .not-current .ensures in
-    let b = c .before .not-current2 .ensures in
-    rw (a, b) (precedes-differ _ _ _ _ (rw (a, b) at (c .if2 .taken)) ∙ precedes-same _ _ _ _ (c .before .before .before .if1 .left))
-
 returns-3 : tie.Need-returns-3
 returns-3 c =
     let a = c .before .before .not-current .ensures in
     let b = c .before .not-current2 .ensures in
-    precedes-last _ _ ∙ precedes-same _ _ _ _ (sym a ∙ c .if2 .left ∙ b) ∙ precedes-same _ _ _ _ (c .before .before .before .if1 .left)
+    let rank = c .before .before .before in
+    let ahead = rank .before .before .before in
+    let args = ahead .before .before .before .args in
+    rw (a, b) (precedes-differ _ _ _ _ (rw (a, b) at (c .if3 .taken)) ∙ precedes-same _ _ _ _ (rank .if2 .left) ∙ precedes-same _ _ _ _ (ahead .if1 .left)
+    ∙ by-offers (currentOf (args .own)) (args .position) (args .other) (args .offer) (args .than))
+
+returns-4 : tie.Need-returns-4
+returns-4 c =
+    let a = c .before .before .not-current .ensures in
+    let b = c .before .not-current2 .ensures in
+    let rank = c .before .before .before in
+    let ahead = rank .before .before .before in
+    let args = ahead .before .before .before .args in
+    precedes-last _ _ ∙ precedes-same _ _ _ _ (sym a ∙ c .if3 .left ∙ b) ∙ precedes-same _ _ _ _ (rank .if2 .left) ∙ precedes-same _ _ _ _ (ahead .if1 .left)
+    ∙ by-offers (currentOf (args .own)) (args .position) (args .other) (args .offer) (args .than)
 
 pub comes-before-spec : {M : Type 1} → statement M
 comes-before-spec =
-    tie.close (tie.spec returns not-current-requires not-current-requires-2 returns-2 returns-3)
+    tie.close
+    (tie.spec returns returns-2 not-current-requires not-current-requires-2 returns-3 returns-4)

@@ -31,13 +31,51 @@ returns-4 c =
     let few = c .before .before .before in
     rw (← (few .before .before .is-bad .ensures), few .before .if1 .left, le-ltb _ _ (few .if2 .left), ← (c .before .before .is-past .ensures), c .before .if3 .left, lt-ltb _ _ (c .if4 .taken))
 
+is-bad-edition-requires : tie.Need-is-bad-edition-requires
+is-bad-edition-requires c κs = search needs
+
 returns-5 : tie.Need-returns-5
 unfolding refusal
 returns-5 c =
-    let few = c .before .before .before in
-    rw (← (few .before .before .is-bad .ensures), few .before .if1 .left, le-ltb _ _ (few .if2 .left), ← (c .before .before .is-past .ensures), c .before .if3 .left, le-ltb _ _ (c .if4 .left))
+    let room = c .before .before in
+    let few = room .before .before .before in
+    rw (
+      ← (few .before .before .is-bad .ensures),
+      few .before .if1 .left,
+      le-ltb _ _ (few .if2 .left),
+      ← (room .before .before .is-past .ensures),
+      room .before .if3 .left,
+      le-ltb _ _ (room .if4 .left),
+      ← (c .before .is-bad-edition .ensures),
+      c .if5 .taken,
+    )
+
+returns-6 : tie.Need-returns-6
+unfolding refusal
+returns-6 c =
+    let room = c .before .before in
+    let few = room .before .before .before in
+    rw (
+      ← (few .before .before .is-bad .ensures),
+      few .before .if1 .left,
+      le-ltb _ _ (few .if2 .left),
+      ← (room .before .before .is-past .ensures),
+      room .before .if3 .left,
+      le-ltb _ _ (room .if4 .left),
+      ← (c .before .is-bad-edition .ensures),
+      c .if5 .left,
+    )
 
 pub refusal-of-spec : {M : Type 1} → statement M
 refusal-of-spec =
     tie.close
-    (tie.spec is-bad-requires returns returns-2 is-past-requires returns-3 returns-4 returns-5)
+    (tie.spec
+    is-bad-requires
+    returns
+    returns-2
+    is-past-requires
+    returns-3
+    returns-4
+    is-bad-edition-requires
+    returns-5
+    returns-6)

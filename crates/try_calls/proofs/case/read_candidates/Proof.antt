@@ -7,7 +7,7 @@ use Rattle.try_calls.proofs.case.read_candidates.Statement.{statement}
 use Rattle.try_calls.proofs.case.read_candidates.Tie as tie
 
 abbrev Inv-loop : tie.InvT-loop
-Inv-loop text from count n limits row₀ list₀ at₀ i₀ row list at i = (at ≤ length text) × ((i ≤ n) × ((length row ≡ 14) × (length list ≡ 16)))
+Inv-loop text from count n limits row₀ list₀ at₀ i₀ row list at i = (at ≤ length text) × ((i ≤ n) × ((length row ≡ 16) × (length list ≡ 16)))
 
 abbrev μ-loop : tie.MeasureT-loop
 μ-loop text from count n limits row₀ list₀ at₀ i₀ row list at i = n - i

@@ -46,7 +46,8 @@ returns-3 c =
     let at-rank = c .before .before .before .before .before in
     let args = at-rank .before .before .args in
     let (e, l) = grown-finite (resulting (args .own) (args .neighbour)) _ (sym (is-resulting at-rank) ∙ c .before .before .before .rank .given .1) in
-    judged-unbarred (args .own) (args .neighbour) _ e (omega (arith, e, l)) (sym (c .before .is-above-lowest .ensures (args .neighbour) e) ∙ c .if1 .left)
+    rw (at-rank .before .before .pre, e)
+    (judged-unbarred (args .own) (args .neighbour) _ e (omega (arith, e, l)) (sym (c .before .is-above-lowest .ensures (args .neighbour) e) ∙ c .if1 .left))
 
 pub judge-rank-spec : {M : Type 1} → statement M
 judge-rank-spec =
