@@ -63,8 +63,8 @@ static void print_answer(const gardhnosk_answer *answer, size_t count, const uin
 
 int main(void)
 {
-    /* MinHopRankIncrease 256, no limit, on a battery at 70 percent, edition 1, no current parent */
-    gardhnosk_own own = {256, 0, 0, 1, GARDHNOSK_ENERGY_KNOWN, 70, 1, 0};
+    /* MinHopRankIncrease 256, no limit, on a battery at 70 percent, no current parent, edition 1 */
+    gardhnosk_own own = {256, 0, 0, 1, GARDHNOSK_ENERGY_KNOWN, 70, 0, 1};
     gardhnosk_candidates neighbours;
     size_t count = 3;
     uint8_t container[GARDHNOSK_OUTPUT_ROOM];

@@ -88,9 +88,12 @@ enum {
  * The node's own numbers. The edition says by what unbarred candidates are compared, the first on which two differ deciding:
  *   1: the lower resulting rank, then the current parent, then the lower position;
  *   2: the lower interface order, then a grounded DODAG, then the higher root preference, and then as edition 1.
- * It is to be set: a zeroed struct in which it is left out names edition 0, and its call is GARDHNOSK_REFUSAL_EDITION. It is newer than the
- * other fields, and stands where the struct had padding: compile anew what was compiled with a header without it, and mind a list of
- * values without names, in which it stands before current.
+ * It is to be set: a zeroed struct in which it is left out names edition 0, and its call is GARDHNOSK_REFUSAL_EDITION; so does a list of
+ * values that ends before it. It is newer than the other fields: compile anew what was compiled with a header without it.
+ *
+ * A call does not know who is below the node. Offer it no neighbour that has this node on its own way to the root: in edition 1 such a one
+ * loses by its rank as long as there is a better one, in edition 2 it wins by a better interface order, and makes a loop. lowest and
+ * maxincrease (GARDHNOSK_BAR_INCREASE) limit this, and do not rule it out.
  *
  * The energy is E_E of RFC 6551, section 3.2, an estimate in percent: on a battery the expected lifetime divided by the one wanted, on a
  * scavenger the power provided divided by the power consumed. So it can be above 100.
@@ -102,8 +105,8 @@ typedef struct {
     uint8_t nodetype;     /* T of RFC 6551's NE: 0 mains, 1 battery, 2 scavenger; 3 is accepted, RFC 6551 gives it no meaning */
     uint8_t flags;        /* GARDHNOSK_OVERLOADED to GARDHNOSK_CURRENT_GIVEN */
     uint8_t energy;       /* remaining energy in percent, 0 to 255, with GARDHNOSK_ENERGY_KNOWN */
-    uint8_t edition;      /* 1, or 2 */
     size_t current;       /* the current parent's position among the candidates, with GARDHNOSK_CURRENT_GIVEN */
+    uint8_t edition;      /* 1, or 2 */
 } gardhnosk_own;
 
 /*
@@ -121,9 +124,10 @@ typedef struct {
  * Interface order, GARDHNOSK_GROUNDED and root preference are read in edition 2 only, where an order or a preference above 7 is
  * GARDHNOSK_BAR_NUMBERS. In edition 1 they may hold anything.
  *
- * The colour, the order and the preference are newer than the other fields, and stand where a candidate had padding: compile anew what was
- * compiled with a header without them, and set them, the colour to 0 where links have none. Otherwise what was there can be
- * GARDHNOSK_BAR_NUMBERS, or in edition 2 another parent.
+ * The colour, the order and the preference are newer than the other fields, and stand where a candidate had padding; GARDHNOSK_GROUNDED was
+ * ignored before. Compile anew what was compiled with a header without them, and set them: the colour to 0 where links have none, the others
+ * for edition 2. Otherwise what was there can be GARDHNOSK_BAR_NUMBERS, or in edition 2 another parent. In a list of values without
+ * inner braces they stand before start and size.
  */
 typedef struct {
     uint16_t rank;       /* the rank that it advertised */
@@ -157,7 +161,7 @@ typedef struct {
     gardhnosk_candidate at[GARDHNOSK_CANDIDATES];
 } gardhnosk_candidates;
 
-/* The answer of gardhnosk_choose. A refused call has a refusal, and nothing else. */
+/* The answer of gardhnosk_choose. A refused call has a refusal, no parent, no rank, no places (the three constants), and else zeros. */
 typedef struct {
     uint8_t refusal;                          /* GARDHNOSK_NONE, or a refusal */
     uint8_t parent;                           /* the preferred parent's position, or GARDHNOSK_NO_PARENT */

@@ -12,8 +12,8 @@ typedef struct {
 #define SIZE(type, wanted) {#type, sizeof(gardhnosk_##type), wanted}
 
 static const layout_t layout[] = {
-    SIZE(own, 24), AT(own, minhop, 0), AT(own, maxincrease, 2), AT(own, lowest, 4), AT(own, nodetype, 6), AT(own, flags, 7),
-    AT(own, energy, 8), AT(own, edition, 9), AT(own, current, 16),
+    SIZE(own, 32), AT(own, minhop, 0), AT(own, maxincrease, 2), AT(own, lowest, 4), AT(own, nodetype, 6), AT(own, flags, 7),
+    AT(own, energy, 8), AT(own, current, 16), AT(own, edition, 24),
     SIZE(neighbour, 24), AT(neighbour, rank, 0), AT(neighbour, sp, 2), AT(neighbour, rf, 3), AT(neighbour, sr, 4),
     AT(neighbour, nodetype, 5), AT(neighbour, flags, 6), AT(neighbour, energy, 7), AT(neighbour, lql, 8), AT(neighbour, etx, 10),
     AT(neighbour, latency, 12), AT(neighbour, throughput, 16), AT(neighbour, colour, 20), AT(neighbour, order, 22),
@@ -297,8 +297,10 @@ static void check_editions(void)
         put_site(&call, 0, contest->first);
         put_site(&call, 1, contest->second);
         call.count = 2;
-        if (contest->current >= 0) call.own.flags = GARDHNOSK_CURRENT_GIVEN;
-        if (contest->current >= 0) call.own.current = (size_t)contest->current;
+        if (contest->current >= 0) {
+            call.own.flags = GARDHNOSK_CURRENT_GIVEN;
+            call.own.current = (size_t)contest->current;
+        }
         run(&call);
         same("edition 1", contest->decides, call.answer.parent, contest->in_first_edition);
         call.own.edition = 2;

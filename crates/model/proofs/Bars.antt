@@ -17,7 +17,7 @@ use Rattle.model.specs.Number.{anyOf, Case, _when_, firstCase, firstOf, 
 use Rattle.model.specs.Object.{Object, Standing, standings}
 use Rattle.model.specs.Reading.{noPlace, misframed, runsPast, malformed, repeated, misused, Reading, refused, wellFormed, reading}
 use Rattle.model.specs.Constraint.{summary, unknownMandatory, unmet, constraintCases, constraintBar}
-use Rattle.model.specs.Rank.{resulting, rankTooHigh, aboveLowest}
+use Rattle.model.specs.Rank.{rankTooHigh, aboveLowest}
 use Rattle.model.specs.Verdict.{offerOf, badNumbers, containerOf, outside, rankCases, rankBar, judgeRank, judgeObjects, judgeReading, verdict, numberOf}
 use Rattle.model.proofs.BoolLaws.{neither}
 use Rattle.model.proofs.NumberLaws.{none-both, none-parts, exact, exact-none, isGiven, given-case, given-none, firstOf-all, given-firstOf, first-with}

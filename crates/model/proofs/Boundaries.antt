@@ -54,6 +54,7 @@ boundaries = record {
   refusal5 = refl;
   bar11Sites = refl;
   bar11Order = refl;
+  criteriaOf = refl;
   eachCriterion = refl;
   inEditions = refl;
 }

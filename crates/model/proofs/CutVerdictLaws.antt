@@ -88,4 +88,4 @@ module _ (own : Own) (lent lent′ : List ℕ) (c c′ : Candidate) (x : CutBesi
       let b : not (isUnbarred (verdict own lent′ c′)) ≡ false = neither (not (isUnbarred (verdict own lent′ c′))) (holdsUnknown lent c) (sym verdict-bars ∙ rw f) .0 in
       let a = admitted own lent c f in
       let a′ = admitted own lent′ c′ (not-false (isUnbarred (verdict own lent′ c′)) b) in
-      a′ .rank ∙ ap (λ n. Unbarred (offerOf own n)) (x .numbers) ∙ sym (a .rank) ∙ e
+      a′ .judged ∙ ap (λ n. Unbarred (offerOf own n)) (x .numbers) ∙ sym (a .judged) ∙ e

@@ -1,13 +1,12 @@
--- Editions 1 and 2: refusal 5, bar 11, and that edition 1 reads nothing of what edition 2 added to a candidate.
+-- Editions 1 and 2: refusal 5, bar 11, what candidates are compared by; edition 1 reads nothing of what edition 2 added to a candidate.
 use mathlib.Core.Path.{_≡_, refl, sym, ap, fun-ext, _∙_}
-use Prim.Native.Nat.{ℕ, zero, suc, _+_, _/_, _%_, _^_}
+use Prim.Native.Nat.{ℕ, zero, suc, _+_, _-_, _*_, _/_, _%_, _^_}
 use native.Mathlib.Omega.{arith}
-use mathlib.Core.Bool.{true≢false, _&&_, and-false}
+use mathlib.Core.Bool.{true≢false, _&&_, or-false, and-false}
 use mathlib.Core.List.{List, [], _∷_, map}
-use mathlib.Core.Option.{none, some}
-use lib.ListN.{length, getElem?, length-map}
+use lib.ListN.{getElem?, length-map}
 use lib.Pow.{field, mod-mod-pow}
-use borrow.Author.Tests.{ne-eqb, le-ltb}
+use borrow.Author.Tests.{eq-eqb, ne-eqb, le-ltb}
 use Rattle.model.specs.declared.Own.{Own}
 use Rattle.model.specs.declared.Neighbour.{Neighbour}
 use Rattle.model.specs.declared.Candidate.{Candidate}
@@ -19,13 +18,13 @@ use Rattle.model.specs.Object.{Object, Kind, unknown, lql, colour, node,
 use Rattle.model.specs.Reading.{Reading, refused, wellFormed, reading}
 use Rattle.model.specs.Constraint.{linkValue, summary, met, constraintBar}
 use Rattle.model.specs.Rank.{resulting, rankTooHigh, aboveLowest}
-use Rattle.model.specs.Verdict.{outOfRange, outOfOrder, isSecond, badNumbers, aheadOf, containerOf, rankBar, judgeRank, judgeObjects, judgeReading, verdict}
+use Rattle.model.specs.Verdict.{outOfRange, siteOutOfRange, isSecond, badNumbers, grounded, aheadOf, containerOf, rankBar, judgeRank, judgeObjects, judgeReading, verdict}
 use Rattle.model.specs.Update.{localValue, recordedBody, addsNothing, isBeyond, nextBody, updateObject, update, objectLeaf, tooLong, leafAnswer}
 use Rattle.model.specs.Choice.{outgoingRead, outgoingAt, outgoing, verdicts, call}
-use Rattle.model.specs.Editions.{EditionRefused, SecondRanges, firstOnly, withoutSecond, FirstEdition}
+use Rattle.model.specs.Editions.{EditionRefused, FirstRanges, SecondRanges, FirstCriteria, SecondCriteria, firstOnly, withoutSecond, FirstEdition}
 use Rattle.model.proofs.BoolLaws.{neither}
 use Rattle.model.proofs.Refusals.{refusals}
-use Rattle.model.proofs.VerdictLaws.{in-order}
+use Rattle.model.proofs.VerdictLaws.{site-in-range}
 
 -- ---- refusal 5 and bar 11
 
@@ -36,12 +35,36 @@ edition-refused own cs lent out =
       λ (before, one, two). held (before, rw (ne-eqb (own .edition) 1 one, ne-eqb (own .edition) 2 two)),
     )
 
+pub first-ranges : FirstRanges
+unfolding badNumbers
+first-ranges own c e = rw (ne-eqb (own .edition) 2 (λ z. omega arith), or-false (outOfRange c))
+
 pub second-ranges : SecondRanges
 unfolding badNumbers
 second-ranges own c e = (
-  λ h. let (o, p) = in-order own c h e in (neither (outOfRange c) (isSecond own && outOfOrder c) h .0, o, p),
+  λ h. let (o, p) = site-in-range own c h e in (neither (outOfRange c) (isSecond own && siteOutOfRange c) h .0, o, p),
   λ (r, o, p). rw (r, le-ltb 7 (c .order) o, le-ltb 7 (c .preference) p, and-false (isSecond own)),
 )
+
+-- ---- the criteria
+
+pub first-criteria : FirstCriteria
+unfolding aheadOf
+first-criteria own c q p e = rw (ne-eqb (own .edition) 2 (λ z. omega arith))
+
+pub second-criteria : SecondCriteria
+unfolding aheadOf
+second-criteria own c q p e =
+    rw (eq-eqb (own .edition) 2 e, order-digit (c .order) (grounded c) (c .preference), ground-digit (c .order) (c .flags / 64) (c .preference), root-digit (c .order) (c .flags / 64) (c .preference))
+  where
+    order-digit : (o f p : ℕ) → (o * 16 + (1 - f) * 8 + (7 - p)) / 16 ≡ o
+    order-digit o f p = omega arith
+
+    ground-digit : (o f p : ℕ) → (o * 16 + (1 - f % 2) * 8 + (7 - p)) / 8 % 2 ≡ 1 - f % 2
+    ground-digit o f p = omega arith
+
+    root-digit : (o f p : ℕ) → (o * 16 + (1 - f % 2) * 8 + (7 - p)) % 8 ≡ 7 - p
+    root-digit o f p = omega arith
 
 -- ---- what reads the flags below 0x40 of a neighbour
 

@@ -1,8 +1,8 @@
 -- What unbarred candidates are compared by: the digits of an offer in each edition, and what it means not to come before another.
-use mathlib.Core.Path.{_≡_, refl, sym, ap, _∙_}
-use Prim.Native.Nat.{ℕ, _+_, _-_, _*_, _/_, _%_, _≤_, _<_}
+use mathlib.Core.Path.{_≡_, refl, sym, _∙_}
+use Prim.Native.Nat.{ℕ, _/_, _%_, _≤_, _<_}
 use native.Mathlib.Omega.{arith}
-use mathlib.Core.Bool.{Bool, true, false, cond}
+use mathlib.Core.Bool.{Bool, true, false}
 use mathlib.Core.List.{List, [], _∷_}
 use lib.Dec.{ltb, eqb}
 use borrow.Author.Tests.{eq-eqb, eqb-true, eqb-false, lt-ltb, le-ltb, ltb-true, ltb-false}
@@ -10,7 +10,7 @@ use Rattle.model.specs.declared.Quantity.{Quantity}
 use Rattle.model.specs.declared.Offer.{Offer}
 use Rattle.model.specs.declared.Own.{Own}
 use Rattle.model.specs.declared.Neighbour.{Neighbour}
-use Rattle.model.specs.Verdict.{isSecond, grounded, aheadOf, offerOf}
+use Rattle.model.specs.Verdict.{isSecond, aheadOf}
 use Rattle.model.specs.Choice.{notCurrent, criteria, precedes}
 use Rattle.model.specs.Selection.{NotBehind, Level}
 use Rattle.model.proofs.ChoiceLaws.{not-preceding}

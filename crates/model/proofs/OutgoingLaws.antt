@@ -67,8 +67,8 @@ module _ (own : Own) (cs : List Candidate) (lent out : List ℕ) (taken : call o
   -- the parent that the answer names is the one chosen
   record Chosen : Type 0 where
     position : ℕ
-    rank : Offer
-    choice : choiceOf own cs lent ≡ Parent position rank
+    offer : Offer
+    choice : choiceOf own cs lent ≡ Parent position offer
     stands : getElem? cs position ≡ some (x .candidate)
 
   chosen : Chosen
@@ -80,15 +80,15 @@ module _ (own : Own) (cs : List Candidate) (lent out : List ℕ) (taken : call o
           let b = at-below cs noParent (x .candidate) s in
           let u = unrefused own cs lent out taken in
           absurd (omega (arith, u .few))
-      go (Parent p r) e = record { position = p; rank = r; choice = e; stands = rw (call-is own cs lent out taken, e) at (x .stands) }
+      go (Parent p r) e = record { position = p; offer = r; choice = e; stands = rw (call-is own cs lent out taken, e) at (x .stands) }
 
   pub leaf-is : call own cs lent out .answer .leaf ≡ leafAnswer own (x .candidate .neighbour) (x .objects)
   leaf-is =
       let h = chosen in
-      rw (call-is own cs lent out taken, h .choice) (leaf-of own cs lent (h .position) (h .rank) (x .candidate) (x .objects) (h .stands) (x .read))
+      rw (call-is own cs lent out taken, h .choice) (leaf-of own cs lent (h .position) (h .offer) (x .candidate) (x .objects) (h .stands) (x .read))
 
   pub passed-is : call own cs lent out .answer .leaf ≡ 0 → passedOn (call own cs lent out) ≡ container (update own (x .candidate .neighbour) (x .objects))
   passed-is l =
       let h = chosen in
-      let o = container-of own cs lent (h .position) (h .rank) (x .candidate) (x .objects) (h .stands) (x .read) (sym leaf-is ∙ l) in
+      let o = container-of own cs lent (h .position) (h .offer) (x .candidate) (x .objects) (h .stands) (x .read) (sym leaf-is ∙ l) in
       rw (call-is own cs lent out taken, h .choice, o) (take-append-seam (container (update own (x .candidate .neighbour) (x .objects))) _)

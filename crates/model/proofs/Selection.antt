@@ -1,5 +1,5 @@
 -- What a call reports that is not refused: the parent, the verdicts, the bits and their count.
-use mathlib.Core.Path.{_≡_, refl, sym, ap, subst, _∙_}
+use mathlib.Core.Path.{_≡_, refl, sym, ap, _∙_}
 use Prim.Native.Nat.{ℕ, zero, suc, _+_, _-_, _≤_, _<_}
 use native.Mathlib.Omega.{arith}
 use mathlib.Core.Bool.{Bool, true, false, cond, not, false≢true, true≢false}
@@ -21,14 +21,14 @@ use Rattle.model.specs.declared.Choice.the-variants.{Nobody, Parent}
 use Rattle.model.specs.Reading.{noPlace}
 use Rattle.model.specs.Rank.{infinite, resulting}
 use Rattle.model.specs.Verdict.{offerOf, verdict, numberOf, placeOf, isUnbarred}
-use Rattle.model.specs.Choice.{currentOf, notCurrent, criteria, precedes, unbarredBit, Outgoing, outgoing, noParent, parentOf, rankOf, leafOf, sizeOf, sixteen, answered, verdicts, choiceOf, call, refusal}
+use Rattle.model.specs.Choice.{currentOf, notCurrent, unbarredBit, Outgoing, outgoing, noParent, parentOf, rankOf, leafOf, sizeOf, sixteen, answered, verdicts, choiceOf, call, refusal}
 use Rattle.model.specs.Conditions.{barredByNothing}
 use Rattle.model.specs.Selection.{Level, hasParent, occurrences, PreferredParent, Selection, SelectionHolds}
 use Rattle.model.proofs.ListLaws.{at-below, at-map, map-at, getD-at, getD-past, any-map, any-same, length-filled}
 use Rattle.model.proofs.ChoiceLaws.{isParent, Preferred, choose-preferred, choose-unbarred, choose-parent, bit-at, bits-below, unbarredCount, ones-bits}
 use Rattle.model.proofs.OfferLaws.{Then, ByOffer, ties, level-ahead, not-behind}
 use Rattle.model.proofs.CallLaws.{call-is, unrefused}
-use Rattle.model.proofs.VerdictLaws.{in-order, nothing-bars, admitted, ten, finite, rises}
+use Rattle.model.proofs.VerdictLaws.{site-in-range, nothing-bars, admitted, ten, finite, rises}
 
 -- ---- the criteria
 
@@ -100,14 +100,14 @@ module _ (own : Own) (cs : List Candidate) (lent out : List ℕ) (taken : call o
 
   -- what is unbarred at a position, as the choice sees it
   unbarred-at : (i : ℕ) (d : Candidate) → getElem? cs i ≡ some d → barredByNothing own lent d ≡ true → getElem? vs i ≡ some (Unbarred (offerOf own (d .neighbour)))
-  unbarred-at i d s f = at-map (verdict own lent) cs i d s ∙ ap some (admitted own lent d (sym (nothing-bars own lent d) ∙ f) .rank)
+  unbarred-at i d s f = at-map (verdict own lent) cs i d s ∙ ap some (admitted own lent d (sym (nothing-bars own lent d) ∙ f) .judged)
 
   pub parented : (p : ℕ) (r : Offer) → choiceOf own cs lent ≡ Parent p r → (o : Outgoing) → PreferredParent own cs lent (answered vs (Parent p r) o out .answer)
   parented p r e o =
       let (c, s, v) = candidate-at p r (choose-unbarred (currentOf own) vs p r e) in
       let u : isUnbarred (verdict own lent c) ≡ true = rw v in
       let a = admitted own lent c u in
-      let k : Unbarred r ≡ Unbarred (offerOf own (c .neighbour)) = sym v ∙ a .rank in
+      let k : Unbarred r ≡ Unbarred (offerOf own (c .neighbour)) = sym v ∙ a .judged in
       let q0 : r ≡ offerOf own (c .neighbour) = same-offer r (offerOf own (c .neighbour)) k in
       let g : r .rank .0 ≡ resulting own (c .neighbour) = ap (λ x. x .rank .0) q0 in
       record {
@@ -120,7 +120,7 @@ module _ (own : Own) (cs : List Candidate) (lent out : List ℕ) (taken : call o
         finite = let h = finite own (c .neighbour) (a .lowRank) in omega arith;
         rises = let h = rises own (c .neighbour) (a .inRange) (unrefused own cs lent out taken .grows) in omega arith;
         ahead = λ t i d s f.
-            let m = in-order own (d .neighbour) (admitted own lent d (sym (nothing-bars own lent d) ∙ f) .inRange) t .1 in
+            let m = site-in-range own (d .neighbour) (admitted own lent d (sym (nothing-bars own lent d) ∙ f) .inRange) t .1 in
             not-behind own (c .neighbour) (d .neighbour) t m (rw q0 at (beside i d s f .0));
         least = λ i d s f l. level i d (c .neighbour) q0 (beside i d s f) l .0;
         tie-current = λ i d s f l t q.

@@ -92,14 +92,14 @@ module _ (own : Own) (cs cs′ : List Candidate) (lent lent′ out out′ : List
   -- the parent of the first call, and what both calls pass on for it
   record BothPassOn : Type 0 where
     position : ℕ
-    rank : Offer
-    choice : choiceOf own cs lent ≡ Parent position rank
+    offer : Offer
+    choice : choiceOf own cs lent ≡ Parent position offer
     candidate : Candidate
     stands : getElem? cs position ≡ some candidate
     objects : List Object
     read : reading (containerOf lent candidate) ≡ wellFormed objects
-    first : outgoing own cs lent (Parent position rank) ≡ nextHop (container (update own (candidate .neighbour) objects))
-    second : outgoing own cs′ lent′ (Parent position rank) ≡ nextHop (container (update own (candidate .neighbour) (cut objects)))
+    first : outgoing own cs lent (Parent position offer) ≡ nextHop (container (update own (candidate .neighbour) objects))
+    second : outgoing own cs′ lent′ (Parent position offer) ≡ nextHop (container (update own (candidate .neighbour) (cut objects)))
 
   both-pass-on : PassedOn (call own cs lent out) → BothPassOn
   unfolding outgoing
@@ -112,7 +112,7 @@ module _ (own : Own) (cs cs′ : List Candidate) (lent lent′ out out′ : List
       no-leaf (leafAnswer own (c .neighbour) os) (container (update own (c .neighbour) os)) (rw (first-is, e, at, x .whole .read) at (p .noLeaf)) in
       record {
         position = i;
-        rank = r;
+        offer = r;
         choice = e;
         candidate = c;
         stands = at;
@@ -130,7 +130,7 @@ module _ (own : Own) (cs cs′ : List Candidate) (lent lent′ out out′ : List
       → PassedOn (call own cs′ lent′ out′) × (cutContainer (passedOn (call own cs lent out)) ≡ passedOn (call own cs′ lent′ out′))
   passes s p =
       let d = both-pass-on p in
-      let e : choiceOf own cs′ lent′ ≡ Parent (d .position) (d .rank) = sym (same-choice s) ∙ d .choice in (
+      let e : choiceOf own cs′ lent′ ≡ Parent (d .position) (d .offer) = sym (same-choice s) ∙ d .choice in (
         record { unrefused = rw second-is; parent = rw (← same-answers s .parent) (p .parent); noLeaf = rw (second-is, e, d .second) },
         rw (passed-first p, nextHop-cut own (d .candidate .neighbour) (d .objects), second-is, e, d .second) (sym (take-append-seam _ _)),
       )

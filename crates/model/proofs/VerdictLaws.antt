@@ -18,7 +18,7 @@ use Rattle.model.specs.declared.Verdict.the-variants.{Unbarred, Barred}
 use Rattle.model.specs.Object.{Object, join}
 use Rattle.model.specs.Reading.{Reading, refused, wellFormed, reading}
 use Rattle.model.specs.Rank.{infinite, resulting, rankTooHigh, aboveLowest}
-use Rattle.model.specs.Verdict.{isSecond, outOfOrder, offerOf, outOfRange, badNumbers, containerOf, outside, judgeReading, verdict, numberOf, isUnbarred}
+use Rattle.model.specs.Verdict.{isSecond, siteOutOfRange, offerOf, outOfRange, badNumbers, containerOf, outside, judgeReading, verdict, numberOf, isUnbarred}
 use Rattle.model.specs.Number.{anyOf}
 use Rattle.model.specs.Conditions.{barsTo19, barsTo21, barredByNothing}
 use Rattle.model.proofs.BoolLaws.{neither}
@@ -28,7 +28,7 @@ use Rattle.model.proofs.ReadingLaws.{frame-short, reading-objects}
 
 -- what is known of a candidate that nothing bars
 pub record Admitted (own : Own) (lent : List ℕ) (c : Candidate) : Type 0 where
-  pub rank : verdict own lent c ≡ Unbarred (offerOf own (c .neighbour))
+  pub judged : verdict own lent c ≡ Unbarred (offerOf own (c .neighbour))
   pub inRange : badNumbers own (c .neighbour) ≡ false
   pub inside : outside lent c ≡ false
   pub lowRank : rankTooHigh own (c .neighbour) ≡ false
@@ -40,22 +40,22 @@ judged-read own c r (refused n p) e = absurd (let z : _≡_ {A = ℕ} 0 1 = cc i
 judged-read own c r (wellFormed os) e = (os, refl)
 
 module _ (own : Own) (lent : List ℕ) (c : Candidate) where
-  admitted-rank : (r : Offer) → verdict own lent c ≡ Unbarred r → Admitted own lent c
+  admitted-offer : (r : Offer) → verdict own lent c ≡ Unbarred r → Admitted own lent c
   unfolding verdict
-  admitted-rank r e =
+  admitted-offer r e =
       let (f, q) = verdict-exact own lent c .unbarred r .0 e in
       let (x, y) = none-parts (barsTo19 own lent c) (rankTooHigh own (c .neighbour) ∷ aboveLowest own (c .neighbour) ∷ []) f in
       let (u, v) = neither (badNumbers own (c .neighbour)) _ x in
       let (s, t) = neither (outside lent c) _ v in
       let h : judgeReading own (c .neighbour) (reading (containerOf lent c)) ≡ Unbarred r = rw (u, s) at e in
       let (os, w) = judged-read own (c .neighbour) r (reading (containerOf lent c)) h in
-      record { rank = rw (← q) e; inRange = u; inside = s; lowRank = neither (rankTooHigh own (c .neighbour)) _ y .0; objects = os; read = w }
+      record { judged = rw (← q) e; inRange = u; inside = s; lowRank = neither (rankTooHigh own (c .neighbour)) _ y .0; objects = os; read = w }
 
   pub admitted : isUnbarred (verdict own lent c) ≡ true → Admitted own lent c
   admitted h = go (verdict own lent c) refl h
     where
       go : (v : Verdict) → verdict own lent c ≡ v → isUnbarred v ≡ true → Admitted own lent c
-      go (Unbarred r) e h = admitted-rank r e
+      go (Unbarred r) e h = admitted-offer r e
       go (Barred n p) e h = absurd (false≢true h)
 
   -- a candidate is unbarred exactly where no condition of a bar holds
@@ -100,7 +100,7 @@ finite own c h = leb-false infinite (resulting own c) (neither (eqb (c .rank .0)
 pub in-range : (own : Own) (c : Neighbour) → badNumbers own c ≡ false → (1 ≤ c .sp) × (1 ≤ c .rf) × (c .lql ≤ 7) × (c .colour ≤ 1023)
 unfolding badNumbers outOfRange
 in-range own c h =
-    let (g, k) = neither _ (ltb 1023 (c .colour)) (neither (outOfRange c) (isSecond own && outOfOrder c) h .0) in
+    let (g, k) = neither _ (ltb 1023 (c .colour)) (neither (outOfRange c) (isSecond own && siteOutOfRange c) h .0) in
     let (a, x) = neither _ (ltb 3 (c .nodetype)) g in
     let (b, q) = neither _ (ltb 7 (c .lql)) a in
     let (d, x) = neither _ (ltb 5 (c .sr)) b in
@@ -110,10 +110,10 @@ in-range own c h =
     (ltb-false (c .sp) 1 s, ltb-false (c .rf) 1 r, ltb-false 7 (c .lql) q, ltb-false 1023 (c .colour) k)
 
 -- and in edition 2
-pub in-order : (own : Own) (c : Neighbour) → badNumbers own c ≡ false → own .edition ≡ 2 → (c .order ≤ 7) × (c .preference ≤ 7)
+pub site-in-range : (own : Own) (c : Neighbour) → badNumbers own c ≡ false → own .edition ≡ 2 → (c .order ≤ 7) × (c .preference ≤ 7)
 unfolding badNumbers
-in-order own c h e =
-    let k : outOfOrder c ≡ false = rw (eq-eqb (own .edition) 2 e) at (neither (outOfRange c) (isSecond own && outOfOrder c) h .1) in
+site-in-range own c h e =
+    let k : siteOutOfRange c ≡ false = rw (eq-eqb (own .edition) 2 e) at (neither (outOfRange c) (isSecond own && siteOutOfRange c) h .1) in
     let (l, m) = neither (ltb 7 (c .order)) (ltb 7 (c .preference)) k in
     (ltb-false 7 (c .order) l, ltb-false 7 (c .preference) m)
 

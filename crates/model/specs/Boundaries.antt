@@ -33,7 +33,7 @@ use Listings.{lines}
 use Cuts.{cuts}
 use Bits.{verdicts, refusals as currentBit, containers as ownBits}
 use Colours.{numbers as colourNumbers, lengths as colourLengths, uses as colourUses, links as colourLinks, bits as colourBits, bitVerdicts as colourBitVerdicts, leaves as colourLeaves, records as colourRecords, constraints as colourConstraints, lines as colourLines, cuts as colourCuts}
-use Editions.{refusals as editionRefusals, sites, siteVerdicts, earlier, contests, parents, outcomes}
+use Editions.{refusals as editionRefusals, sites, siteVerdicts, earlier, compared, siteCriteria, contests, parents, outcomes}
 
 -- the tables, each computed
 pub record Boundaries : Type 0 where
@@ -97,5 +97,6 @@ pub record Boundaries : Type 0 where
   pub refusal5 : Holds sizedRefusal editionRefusals
   pub bar11Sites : Holds siteVerdicts sites
   pub bar11Order : Holds verdictOf earlier
+  pub criteriaOf : Holds siteCriteria compared
   pub eachCriterion : Holds parents contests
   pub inEditions : Holds outcomeOf outcomes

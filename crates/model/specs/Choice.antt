@@ -64,8 +64,7 @@ refusal own n m = firstCase (refusalCases own n m)
 abbrev pub notCurrent : (current : Quantity) → (position : ℕ) → ℕ
 notCurrent q p = cond (satisfies (λ i. eqb i p) q) 0 1
 
--- what candidates are compared by, the first criterion first: interface order, grounded and root preference, all 0 in edition 1; then
--- resulting rank, being the current parent, position
+-- what candidates are compared by, in order: interface order, grounded, root preference, resulting rank, being the current parent, position
 abbrev pub criteria : (current : Quantity) → (position : ℕ) → Offer → List ℕ
 criteria q p r = r .ahead / 16 ∷ r .ahead / 8 % 2 ∷ r .ahead % 8 ∷ r .rank .0 ∷ notCurrent q p ∷ p ∷ []
 

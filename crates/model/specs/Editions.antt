@@ -1,16 +1,17 @@
--- Editions 1 and 2: who names another is refused, whose numbers bar 11 finds out of range, and that edition 1 reads nothing of what
--- edition 2 added to a candidate.
+-- Editions 1 and 2: refusal 5, bar 11, what candidates are compared by; edition 1 reads nothing of what edition 2 added to a candidate.
 use mathlib.Core.Path.{_≡_}
-use Prim.Native.Nat.{ℕ, _%_, _≤_}
+use Prim.Native.Nat.{ℕ, _-_, _/_, _%_, _≤_}
 use mathlib.Core.Bool.{false}
 use mathlib.Core.List.{List, [], _∷_, map}
 use mathlib.Core.Logic.{_↔_}
 use lib.ListN.{length}
+use Rattle.model.specs.declared.Quantity.{Quantity}
 use Rattle.model.specs.declared.Own.{Own}
 use Rattle.model.specs.declared.Neighbour.{Neighbour}
 use Rattle.model.specs.declared.Candidate.{Candidate}
-use Rattle.model.specs.Verdict.{outOfRange, badNumbers}
-use Rattle.model.specs.Choice.{badOwn, tooMany, currentPast, shortOutput, call}
+use Rattle.model.specs.Rank.{resulting}
+use Rattle.model.specs.Verdict.{outOfRange, badNumbers, offerOf}
+use Rattle.model.specs.Choice.{badOwn, tooMany, currentPast, shortOutput, notCurrent, criteria, call}
 use Rattle.model.specs.Exact.{NoneOf}
 
 -- refusal 5: none of 1 to 4, and the edition is not 1 and not 2
@@ -19,9 +20,23 @@ EditionRefused = (own : Own) (cs : List Candidate) (lent out : List ℕ)
     → (call own cs lent out .answer .refusal ≡ 5)
     ↔ (NoneOf (badOwn own ∷ tooMany (length cs) ∷ currentPast own (length cs) ∷ shortOutput (length out) ∷ []) × (own .edition ≡ 1 → ⊥) × (own .edition ≡ 2 → ⊥))
 
+-- bar 11 in edition 1
+abbrev pub FirstRanges : Type 0
+FirstRanges = (own : Own) (c : Neighbour) → own .edition ≡ 1 → badNumbers own c ≡ outOfRange c
+
 -- bar 11 in edition 2: its condition does not hold exactly where the one of edition 1 does not, and order and preference are 7 at most
 abbrev pub SecondRanges : Type 0
 SecondRanges = (own : Own) (c : Neighbour) → own .edition ≡ 2 → (badNumbers own c ≡ false) ↔ ((outOfRange c ≡ false) × (c .order ≤ 7) × (c .preference ≤ 7))
+
+-- what edition 1 compares: nothing before the rank
+abbrev pub FirstCriteria : Type 0
+FirstCriteria = (own : Own) (c : Neighbour) (q : Quantity) (p : ℕ) → own .edition ≡ 1
+    → criteria q p (offerOf own c) ≡ 0 ∷ 0 ∷ 0 ∷ resulting own c ∷ notCurrent q p ∷ p ∷ []
+
+-- what edition 2 compares, by the neighbour's own numbers and flag 0x40
+abbrev pub SecondCriteria : Type 0
+SecondCriteria = (own : Own) (c : Neighbour) (q : Quantity) (p : ℕ) → own .edition ≡ 2
+    → criteria q p (offerOf own c) ≡ c .order ∷ (1 - c .flags / 64 % 2) ∷ (7 - c .preference) ∷ resulting own c ∷ notCurrent q p ∷ p ∷ []
 
 -- a neighbour without interface order, root preference and flag 0x40, grounded, or a flag above it, which nothing reads
 abbrev pub firstOnly : Neighbour → Neighbour

@@ -42,7 +42,7 @@ pub record FirstWith {A : Type 0} (xs : List A) (group lower : List (A → Bool)
   pub has : FirstToHold (map (λ t. t element) lower) (property element)
   pub clear : (i : ℕ) (x : A) → i < index → getElem? xs i ≡ some x → anyOf (λ t. t x) group ≡ false
 
--- ---- refusals 1 to 4
+-- ---- refusals 1 to 5
 
 -- `given`: the refusal that a call reports
 pub record RefusalExact (own : Own) (count room given : ℕ) : Type 0 where

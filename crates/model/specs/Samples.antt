@@ -29,9 +29,13 @@ Holds f table = map (λ r. f (r .given)) table ≡ map (λ r. r .said) table
 
 -- ---- own numbers
 
--- own numbers, in edition 1
+-- own numbers in an edition
+abbrev pub ownAs : (edition minhop maxincrease lowest nodetype flags energy current : ℕ) → Own
+ownAs d m x l t f e p = record { minhop = m; maxincrease = x; lowest = record { 0 = l }; nodetype = t; flags = f; energy = e; current = p; edition = d }
+
+-- own numbers in edition 1
 abbrev pub ownWith : (minhop maxincrease lowest nodetype flags energy current : ℕ) → Own
-ownWith m x l t f e p = record { minhop = m; maxincrease = x; lowest = record { 0 = l }; nodetype = t; flags = f; energy = e; edition = 1; current = p }
+ownWith = ownAs 1
 
 -- MinHopRankIncrease 256, DAGMaxRankIncrease 0, type 0, no flag; energy, L and current parent not given
 abbrev pub own0 : Own
@@ -51,7 +55,7 @@ ownCurrent p = ownWith 256 0 0 0 0x10 0 p
 
 -- own0 in an edition; flag 0x10: the current parent's position is given
 abbrev pub ownIn : (edition flags current : ℕ) → Own
-ownIn e f p = record { minhop = 256; maxincrease = 0; lowest = record { 0 = 0 }; nodetype = 0; flags = f; energy = 0; edition = e; current = p }
+ownIn d f p = ownAs d 256 0 0 0 f 0 p
 
 -- ---- a neighbour's numbers
 
@@ -92,14 +96,18 @@ throughputOf v = linkOf 0x20 0 0 0 v
 abbrev pub lqlOf : (value : ℕ) → Neighbour
 lqlOf v = linkOf 0x00 v 0 0 0
 
+-- a neighbour one unit away, of type 0, nothing of whose link is known but its colour
+abbrev pub plain : (rank flags colour order preference : ℕ) → Neighbour
+plain r f v o p =
+    record { rank = record { 0 = r }; sp = 1; rf = 1; sr = 0; nodetype = 0; flags = f; energy = 0; lql = 0; etx = 0; latency = 0; throughput = 0; colour = v; order = o; preference = p }
+
 -- a link of this colour
 abbrev pub colourOf : (value : ℕ) → Neighbour
-colourOf v = record { rank = record { 0 = 256 }; sp = 1; rf = 1; sr = 0; nodetype = 0; flags = 0x00; energy = 0; lql = 0; etx = 0; latency = 0; throughput = 0; colour = v; order = 0; preference = 0 }
+colourOf v = plain 256 0x00 v 0 0
 
--- what edition 2 reads, with a rank, one unit away; flag 0x40: grounded
+-- what edition 2 reads, with a rank; flag 0x40: grounded
 abbrev pub sited : (order flags preference rank : ℕ) → Neighbour
-sited o f p r =
-    record { rank = record { 0 = r }; sp = 1; rf = 1; sr = 0; nodetype = 0; flags = f; energy = 0; lql = 0; etx = 0; latency = 0; throughput = 0; colour = 0; order = o; preference = p }
+sited o f p r = plain r f 0 o p
 
 -- ---- bytes
 

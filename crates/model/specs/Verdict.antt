@@ -20,8 +20,8 @@ unfoldable pub outOfRange : Neighbour → Bool
 outOfRange c = ltb (c .sp) 1 || ltb 9 (c .sp) || ltb (c .rf) 1 || ltb 4 (c .rf) || ltb 5 (c .sr) || ltb 7 (c .lql) || ltb 3 (c .nodetype) || ltb 1023 (c .colour)
 
 -- interface order or root preference above 7
-abbrev pub outOfOrder : Neighbour → Bool
-outOfOrder c = ltb 7 (c .order) || ltb 7 (c .preference)
+abbrev pub siteOutOfRange : Neighbour → Bool
+siteOutOfRange c = ltb 7 (c .order) || ltb 7 (c .preference)
 
 -- the caller names edition 2
 abbrev pub isSecond : Own → Bool
@@ -29,7 +29,7 @@ isSecond own = eqb (own .edition) 2
 
 -- bar 11: numbers out of range, in edition 2 also those that it alone reads
 unfoldable pub badNumbers : Own → Neighbour → Bool
-badNumbers own c = outOfRange c || isSecond own && outOfOrder c
+badNumbers own c = outOfRange c || isSecond own && siteOutOfRange c
 
 -- a candidate's container in the lent run
 abbrev pub containerOf : (lent : List ℕ) → Candidate → List ℕ
@@ -51,8 +51,7 @@ rankBar own c = firstCase (rankCases own c)
 abbrev pub grounded : Neighbour → ℕ
 grounded c = c .flags / 64 % 2
 
--- what edition 2 compares before the rank, the lower the better, as digits: interface order, 1 where not grounded, how far root preference is
--- below 7; in edition 1 nothing
+-- what edition 2 compares before the rank, as digits: interface order, 1 where not grounded, how far root preference is below 7
 unfoldable pub aheadOf : Own → Neighbour → ℕ
 aheadOf own c = cond (isSecond own) (c .order * 16 + (1 - grounded c) * 8 + (7 - c .preference)) 0
 

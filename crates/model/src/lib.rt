@@ -25,10 +25,10 @@ pub struct Own {
     pub nodetype: u8,
     pub flags: u8,
     pub energy: u8,
-    // 1, or 2: which criteria select a parent
-    pub edition: u8,
     // the current parent's position
     pub current: usize,
+    // 1, or 2: which criteria select a parent
+    pub edition: u8,
 }
 
 // What is known of a neighbour and the link to it. Flags: 0x01 overloaded, 0x02 aggregator, 0x04 energy is known,
@@ -60,7 +60,6 @@ pub struct Neighbour {
 }
 
 // What an unbarred candidate is compared by, the lower the better.
-#[repr(C)]
 pub struct Offer {
     // what edition 2 compares before the rank, as digits: the interface's order times 16, 8 where its DODAG is not grounded, and how far
     // its root's preference is below 7; in edition 1 it is 0
@@ -86,7 +85,7 @@ pub struct Summary {
     pub etx: u16,
 }
 
-// Document 01's verdict: unbarred with the resulting rank, or barred by a number, at the object of index `place`; 65535 for none.
+// Document 01's verdict: unbarred with what it is compared by, or barred by a number, at the object of index `place`; 65535 for none.
 pub enum Verdict {
     Unbarred(Offer),
     Barred { number: u8, place: u16 },

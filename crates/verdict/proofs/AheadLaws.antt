@@ -1,23 +1,23 @@
 -- Bar 11 by what edition 2 compares before the rank.
 use mathlib.Core.Path.{_≡_, refl}
-use Prim.Native.Nat.{ℕ, _+_, _-_, _*_, _/_, _%_, _≤_, _<_}
+use Prim.Native.Nat.{_+_, _-_, _*_, _≤_, _<_}
 use native.Mathlib.Omega.{arith}
 use mathlib.Core.Bool.{Bool, true, false, cond, _&&_}
 use lib.Dec.{ltb}
 use borrow.Author.Tests.{eq-eqb, ne-eqb, lt-ltb, le-ltb, ltb-false}
 use Rattle.model.specs.declared.Own.{Own}
 use Rattle.model.specs.declared.Neighbour.{Neighbour}
-use Rattle.model.specs.Verdict.{outOfRange, outOfOrder, isSecond, badNumbers, grounded, aheadOf}
+use Rattle.model.specs.Verdict.{outOfRange, siteOutOfRange, isSecond, badNumbers, grounded, aheadOf}
 use Rattle.model.proofs.BoolLaws.{neither}
 use Rattle.verdict.specs.Ahead.{aheadOrOut}
 
 module _ (own : Own) (c : Neighbour) where
   -- the digits that are in range stay below 255
-  ahead-below : isSecond own && outOfOrder c ≡ false → aheadOf own c < 255
+  ahead-below : isSecond own && siteOutOfRange c ≡ false → aheadOf own c < 255
   unfolding aheadOf
   ahead-below h = go (isSecond own) h
     where
-      go : (s : Bool) → s && outOfOrder c ≡ false → cond s (c .order * 16 + (1 - grounded c) * 8 + (7 - c .preference)) 0 < 255
+      go : (s : Bool) → s && siteOutOfRange c ≡ false → cond s (c .order * 16 + (1 - grounded c) * 8 + (7 - c .preference)) 0 < 255
       go true h = let o = ltb-false 7 (c .order) (neither (ltb 7 (c .order)) (ltb 7 (c .preference)) h .0) in omega arith
       go false h = omega arith
 
@@ -25,18 +25,18 @@ module _ (own : Own) (c : Neighbour) where
   unfolding badNumbers
   bad-range e = rw e
 
-  pub bad-order : outOfRange c ≡ false → aheadOrOut own c ≡ 255 → badNumbers own c ≡ true
+  pub bad-site : outOfRange c ≡ false → aheadOrOut own c ≡ 255 → badNumbers own c ≡ true
   unfolding aheadOrOut badNumbers
-  bad-order e h = rw e (go (isSecond own && outOfOrder c) refl h)
+  bad-site e h = rw e (go (isSecond own && siteOutOfRange c) refl h)
     where
-      go : (b : Bool) → isSecond own && outOfOrder c ≡ b → cond b 255 (aheadOf own c) ≡ 255 → b ≡ true
+      go : (b : Bool) → isSecond own && siteOutOfRange c ≡ b → cond b 255 (aheadOf own c) ≡ 255 → b ≡ true
       go true q h = refl
       go false q h = absurd (let l = ahead-below q in omega arith)
 
   -- in range, the digits are the model's
-  pub good-order : outOfRange c ≡ false → (aheadOrOut own c ≡ 255 → ⊥) → (badNumbers own c ≡ false) × (aheadOrOut own c ≡ aheadOf own c)
+  pub good-site : outOfRange c ≡ false → (aheadOrOut own c ≡ 255 → ⊥) → (badNumbers own c ≡ false) × (aheadOrOut own c ≡ aheadOf own c)
   unfolding aheadOrOut badNumbers
-  good-order e h = rw e (go (isSecond own && outOfOrder c) h)
+  good-site e h = rw e (go (isSecond own && siteOutOfRange c) h)
     where
       go : (b : Bool) → (cond b 255 (aheadOf own c) ≡ 255 → ⊥) → (b ≡ false) × (cond b 255 (aheadOf own c) ≡ aheadOf own c)
       go true h = absurd (h refl)

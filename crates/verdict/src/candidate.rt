@@ -158,7 +158,7 @@ pub fn judge(own: Own, candidate: Candidate, lent: &[u8]) -> Verdict
         };
     }
     let ahead = ahead::ahead_of(own, neighbour);
-    if ahead == ahead::OUT_OF_ORDER {
+    if ahead == ahead::OUT_OF_RANGE {
         return Verdict::Barred {
             number: 11,
             place: 65535,

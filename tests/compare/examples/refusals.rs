@@ -3,9 +3,14 @@
 use super::{Trial, BEFORE, OWN};
 use crate::reference::data::{Answer, Candidate, Own, CANDIDATES, CURRENT_GIVEN};
 
+/// These own numbers in an edition.
+const fn named(edition: u8, own: Own) -> Own {
+    Own { edition, ..own }
+}
+
 /// Own numbers of an edition.
 const fn edition(edition: u8) -> Own {
-    Own { edition, ..OWN }
+    named(edition, OWN)
 }
 
 const CURRENT: Own = Own {
@@ -32,6 +37,14 @@ const REFUSALS: &[(Own, usize, usize, u8)] = &[
     (CURRENT, 0, 257, 3),
     (CURRENT, 1, 256, 4),
     (CURRENT, 1, 257, 5),
+    (named(1, NO_UNIT), 1, 257, 1),
+    (named(1, PAST), 17, 257, 2),
+    (named(1, PAST), 1, 257, 3),
+    (named(1, CURRENT), 1, 257, 0),
+    (named(2, TYPE_4), 1, 257, 1),
+    (named(2, PAST), 17, 257, 2),
+    (named(2, PAST), 1, 257, 3),
+    (named(2, CURRENT), 1, 257, 0),
     (edition(0), 0, 0, 4),
     (edition(0), 0, 257, 5),
     (edition(0), 16, 300, 5),

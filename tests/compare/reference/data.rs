@@ -31,8 +31,8 @@ pub struct Own {
     pub nodetype: u8,
     pub flags: u8,
     pub energy: u8,
-    pub edition: u8,
     pub current: usize,
+    pub edition: u8,
 }
 
 impl Own {

@@ -2,12 +2,20 @@
 use Prim.Native.Nat.{ℕ}
 use mathlib.Core.List.{List, [], _∷_, _++_, map}
 use lib.ListN.{replicate}
+use Rattle.model.specs.declared.Quantity.the-variants.{Unknown}
+use Rattle.model.specs.declared.Own.{Own}
 use Rattle.model.specs.declared.Candidate.{Candidate}
-use Rattle.model.specs.Samples.{Example, _gives_, ownIn, sited, empty, candidate, Calling, calling, single, resultOf, verdictOf, Outcome, nobody, chosen}
+use Rattle.model.specs.Samples.{Example, _gives_, ownAs, ownIn, sited, empty, candidate, Calling, calling, single, resultOf, verdictOf, Outcome, nobody, chosen}
+use Rattle.model.specs.Verdict.{offerOf}
+use Rattle.model.specs.Choice.{criteria}
 use Rattle.model.specs.Boundaries.Refusals.{Sized, sized}
 use Rattle.model.specs.Boundaries.Choices.{among, judged}
 
 -- ---- refusal 5
+
+-- own numbers that are all zeros but for MinHopRankIncrease
+abbrev pub zeroed : (minhop : ℕ) → Own
+zeroed m = ownAs 0 m 0 0 0 0x00 0 0
 
 abbrev pub refusals : List (Example Sized ℕ)
 refusals =
@@ -19,10 +27,13 @@ refusals =
     -- 130 is 2 in its low seven bits; without a candidate too
     ∷ sized (ownIn 130 0x00 0) 1 257 gives 5
     ∷ sized (ownIn 3 0x00 0) 0 257 gives 5
-    -- after 4, 3 and 2
+    -- after 4, 3, 2 and 1
     ∷ sized (ownIn 3 0x00 0) 1 256 gives 4
     ∷ sized (ownIn 3 0x10 1) 1 257 gives 3
     ∷ sized (ownIn 3 0x00 0) 17 257 gives 2
+    ∷ sized (zeroed 0) 1 257 gives 1
+    ∷ sized (zeroed 1) 1 257 gives 5
+    -- edition 2 has the refusals before it too
     ∷ sized (ownIn 2 0x00 0) 1 256 gives 4
     ∷ sized (ownIn 2 0x10 1) 1 257 gives 3
     ∷ []
@@ -57,7 +68,7 @@ sites =
     ∷ site 0 0x00 128 gives (10 ∷ 11 ∷ [])
     ∷ []
 
--- before bar 12; and no other bar comes before it
+-- before bar 12, and before bar 20
 abbrev pub earlier : List (Example Calling ℕ)
 earlier =
     calling (ownIn 2 0x00 0) (candidate (sited 8 0x00 0 256) 0 1 ∷ []) [] gives 11
@@ -65,6 +76,20 @@ earlier =
     ∷ calling (ownIn 1 0x00 0) (candidate (sited 8 0x00 0 256) 0 1 ∷ []) [] gives 12
     ∷ single (ownIn 2 0x00 0) (sited 0 0x00 8 65535) empty gives 11
     ∷ single (ownIn 1 0x00 0) (sited 0 0x00 8 65535) empty gives 20
+    ∷ []
+
+-- ---- what candidates are compared by
+
+-- the criteria of such a candidate of rank 256, at position 3 without a current parent, in edition 1 and in edition 2
+abbrev pub siteCriteria : Site → List (List ℕ)
+siteCriteria s = map (λ e. criteria Unknown 3 (offerOf (ownIn e 0x00 0) (sited (s .order) (s .flags) (s .preference) 256))) (1 ∷ 2 ∷ [])
+
+abbrev pub compared : List (Example Site (List (List ℕ)))
+compared =
+    site 0 0x00 0 gives ((0 ∷ 0 ∷ 0 ∷ 512 ∷ 1 ∷ 3 ∷ []) ∷ (0 ∷ 1 ∷ 7 ∷ 512 ∷ 1 ∷ 3 ∷ []) ∷ [])
+    ∷ site 0 0x40 7 gives ((0 ∷ 0 ∷ 0 ∷ 512 ∷ 1 ∷ 3 ∷ []) ∷ (0 ∷ 0 ∷ 0 ∷ 512 ∷ 1 ∷ 3 ∷ []) ∷ [])
+    ∷ site 7 0x00 0 gives ((0 ∷ 0 ∷ 0 ∷ 512 ∷ 1 ∷ 3 ∷ []) ∷ (7 ∷ 1 ∷ 7 ∷ 512 ∷ 1 ∷ 3 ∷ []) ∷ [])
+    ∷ site 5 0x40 2 gives ((0 ∷ 0 ∷ 0 ∷ 512 ∷ 1 ∷ 3 ∷ []) ∷ (5 ∷ 0 ∷ 5 ∷ 512 ∷ 1 ∷ 3 ∷ []) ∷ [])
     ∷ []
 
 -- ---- the choice
@@ -91,7 +116,7 @@ parents w = map (λ e. resultOf (among (ownIn e (w .flags) (w .current)) (w .can
 
 abbrev pub contests : List (Example Contest (List ℕ))
 contests =
-    -- interface order alone decides: all else speaks for the other, its rank, its being current and its position in edition 1 too
+    -- interface order alone decides in edition 2; all else speaks for the other, whom edition 1 takes
     current 0 (with 1 0x40 7 100 ∷ with 0 0x00 0 300 ∷ []) gives (0 ∷ 1 ∷ [])
     ∷ current 1 (with 0 0x00 0 300 ∷ with 1 0x40 7 100 ∷ []) gives (1 ∷ 0 ∷ [])
     ∷ free (with 7 0x40 7 100 ∷ with 6 0x00 0 300 ∷ []) gives (0 ∷ 1 ∷ [])

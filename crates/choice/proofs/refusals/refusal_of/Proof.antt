@@ -1,7 +1,10 @@
 -- `refusal_of` meets its contract, a test at a time.
+use mathlib.Core.Path.{_≡_}
+use mathlib.Core.List.{[], _∷_}
 use borrow.Author.Needs.{needs}
 use borrow.Author.Tests.{lt-ltb, le-ltb}
-use Rattle.model.specs.Choice.{refusal}
+use Rattle.model.specs.Number.{_when_, firstCase}
+use Rattle.model.specs.Choice.{badEdition, refusal}
 use Rattle.choice.proofs.refusals.refusal_of.Statement.{statement}
 use Rattle.choice.proofs.refusals.refusal_of.Tie as tie
 
@@ -31,40 +34,23 @@ returns-4 c =
     let few = c .before .before .before in
     rw (← (few .before .before .is-bad .ensures), few .before .if1 .left, le-ltb _ _ (few .if2 .left), ← (c .before .before .is-past .ensures), c .before .if3 .left, lt-ltb _ _ (c .if4 .taken))
 
+-- past refusal 4 only the edition is left
+past-4 : (c : tie.Else4)
+    → let args = c .before .before .before .before .before .before .args in
+    refusal (args .own) (args .count) (args .room) ≡ firstCase (5 when badEdition (args .own) ∷ [])
+unfolding refusal
+past-4 c =
+    let few = c .before .before .before in
+    rw (← (few .before .before .is-bad .ensures), few .before .if1 .left, le-ltb _ _ (few .if2 .left), ← (c .before .before .is-past .ensures), c .before .if3 .left, le-ltb _ _ (c .if4 .left))
+
 is-bad-edition-requires : tie.Need-is-bad-edition-requires
 is-bad-edition-requires c κs = search needs
 
 returns-5 : tie.Need-returns-5
-unfolding refusal
-returns-5 c =
-    let room = c .before .before in
-    let few = room .before .before .before in
-    rw (
-      ← (few .before .before .is-bad .ensures),
-      few .before .if1 .left,
-      le-ltb _ _ (few .if2 .left),
-      ← (room .before .before .is-past .ensures),
-      room .before .if3 .left,
-      le-ltb _ _ (room .if4 .left),
-      ← (c .before .is-bad-edition .ensures),
-      c .if5 .taken,
-    )
+returns-5 c = rw (past-4 (c .before .before), ← (c .before .is-bad-edition .ensures), c .if5 .taken)
 
 returns-6 : tie.Need-returns-6
-unfolding refusal
-returns-6 c =
-    let room = c .before .before in
-    let few = room .before .before .before in
-    rw (
-      ← (few .before .before .is-bad .ensures),
-      few .before .if1 .left,
-      le-ltb _ _ (few .if2 .left),
-      ← (room .before .before .is-past .ensures),
-      room .before .if3 .left,
-      le-ltb _ _ (room .if4 .left),
-      ← (c .before .is-bad-edition .ensures),
-      c .if5 .left,
-    )
+returns-6 c = rw (past-4 (c .before .before), ← (c .before .is-bad-edition .ensures), c .if5 .left)
 
 pub refusal-of-spec : {M : Type 1} → statement M
 refusal-of-spec =

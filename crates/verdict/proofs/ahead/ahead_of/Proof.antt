@@ -1,4 +1,3 @@
-use native.Mathlib.Omega.{arith}
 use borrow.Author.Needs.{needs}
 use Rattle.verdict.proofs.AheadLaws.{no-second, order-out, preference-out, both-in}
 use Rattle.verdict.proofs.ahead.ahead_of.Statement.{statement}

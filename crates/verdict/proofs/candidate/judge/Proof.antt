@@ -3,7 +3,7 @@ use mathlib.Core.Bool.{false}
 use native.Mathlib.Omega.{arith}
 use borrow.Author.Needs.{needs}
 use Rattle.model.specs.Verdict.{badNumbers, aheadOf}
-use Rattle.verdict.proofs.AheadLaws.{bad-range, bad-order, good-order}
+use Rattle.verdict.proofs.AheadLaws.{bad-range, bad-site, good-site}
 use Rattle.verdict.proofs.JudgeLaws.{judged-11, judged-12, judged-inside}
 use Rattle.verdict.proofs.candidate.judge.Statement.{statement}
 use Rattle.verdict.proofs.candidate.judge.Tie as tie
@@ -16,7 +16,7 @@ in-range c =
     let ranged = c .before .before in
     let args = ranged .before .before .before .before .args in
     let e = c .before .ahead-of .ensures in
-    let (g, q) = good-order (args .own) (args .candidate .neighbour) (sym (ranged .before .is-out-of-range .ensures) ∙ ranged .if1 .left) (λ z. c .if2 .left (e ∙ z)) in
+    let (g, q) = good-site (args .own) (args .candidate .neighbour) (sym (ranged .before .is-out-of-range .ensures) ∙ ranged .if1 .left) (λ z. c .if2 .left (e ∙ z)) in
     (g, e ∙ q)
 
 is-out-of-range-requires : tie.Need-is-out-of-range-requires
@@ -35,7 +35,7 @@ returns-2 c =
     let ranged = c .before .before in
     let args = ranged .before .before .before .before .args in
     judged-11 (args .own) (args .lent .now) (args .candidate)
-    (bad-order (args .own) (args .candidate .neighbour) (sym (ranged .before .is-out-of-range .ensures) ∙ ranged .if1 .left) (sym (c .before .ahead-of .ensures) ∙ c .if2 .taken))
+    (bad-site (args .own) (args .candidate .neighbour) (sym (ranged .before .is-out-of-range .ensures) ∙ ranged .if1 .left) (sym (c .before .ahead-of .ensures) ∙ c .if2 .taken))
 
 returns-3 : tie.Need-returns-3
 returns-3 c =
