@@ -92,7 +92,7 @@ enum {
  * values that ends before it. It is newer than the other fields: compile anew what was compiled with a header without it.
  *
  * A call does not know who is below the node. Offer it no neighbour that has this node on its own way to the root: in edition 1 such a one
- * loses by its rank as long as there is a better one, in edition 2 it wins by a better interface order, and makes a loop. lowest and
+ * loses by its rank as long as there is a better one, in edition 2 it can win by what comes before the rank, and make a loop. lowest and
  * maxincrease (GARDHNOSK_BAR_INCREASE) limit this, and do not rule it out.
  *
  * The energy is E_E of RFC 6551, section 3.2, an estimate in percent: on a battery the expected lifetime divided by the one wanted, on a
