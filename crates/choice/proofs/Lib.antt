@@ -3,3 +3,4 @@ pub mod PassLaws
 pub mod ParentLaws
 pub mod ReturnLaws
 pub mod Demand3
+pub mod DifferenceLaws

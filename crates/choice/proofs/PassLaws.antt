@@ -32,6 +32,13 @@ pub gathered-none : (own : Own) (lent : List ℕ) (cs : List Candidate) → Gath
 unfolding bitsOf chooseFrom
 gathered-none own lent cs = record { numbered = refl; placed = refl; marked = refl; chosen = refl }
 
+-- the choice among one candidate more
+pub choice-snoc : (own : Own) (lent : List ℕ) (judged : List Candidate) (c : Candidate)
+    → choiceOf own (judged ++ (c ∷ [])) lent ≡ afterVerdict (currentOf own) (choiceOf own judged lent) (length judged) (verdict own lent c)
+choice-snoc own lent judged c =
+    let vs = verdicts own judged lent in
+    rw (map-append (verdict own lent) judged (c ∷ []), ← length-map judged (verdict own lent)) (choose-snoc (currentOf own) vs (verdict own lent c))
+
 module _ (own : Own) (lent : List ℕ) (judged : List Candidate) (c : Candidate) {numbers places : List ℕ} {bits : ℕ} {best : Choice} where
   gathered-snoc : length judged < 16 → Gathered own lent judged numbers places bits best
       → Gathered own lent (judged ++ (c ∷ [])) (set numbers (length judged) (numberOf (verdict own lent c))) (set places (length judged) (placeOf (verdict own lent c)))
@@ -47,7 +54,7 @@ module _ (own : Own) (lent : List ℕ) (judged : List Candidate) (c : Candidate)
         numbered = rw (s, map-append numberOf vs (v ∷ []), g .numbered, ← ln) (sixteen-snoc 0 (map numberOf vs) (numberOf v) (omega arith));
         placed = rw (s, map-append placeOf vs (v ∷ []), g .placed, ← lp) (sixteen-snoc noPlace (map placeOf vs) (placeOf v) (omega arith));
         marked = rw (s, g .marked, ← l) (sym (bits-snoc vs v));
-        chosen = rw (s, g .chosen, ← l) (sym (choose-snoc (currentOf own) vs v));
+        chosen = rw (g .chosen) (sym (choice-snoc own lent judged c));
       }
 
 -- one candidate more

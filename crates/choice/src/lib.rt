@@ -10,8 +10,14 @@ use model::Own;
 use model::Verdict;
 
 mod answers;
+mod differences;
 mod preference;
 mod refusals;
+
+pub use differences::Difference;
+pub use differences::first_difference;
+pub use preference::better;
+pub use refusals::refusal_of;
 
 // The whole call: refusals, a verdict on each candidate, the preferred parent, and the container for the next hop in the output.
 pub fn call(

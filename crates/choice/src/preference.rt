@@ -7,7 +7,7 @@ use model::Offer;
 use model::Own;
 
 // 0 for the current parent, 1 for any other.
-fn not_current(own: Own, position: u8) -> u8
+pub(crate) fn not_current(own: Own, position: u8) -> u8
     ensures { λ r. ⌜ r ≡ notCurrent (currentOf own) position ⌝ }
 {
     if (own.flags / 16 % 2 == 1) & (own.current == position as usize) {
@@ -36,7 +36,7 @@ fn comes_before(own: Own, position: u8, offer: Offer, other: u8, than: Offer) ->
 }
 
 // The best candidate so far, with one more that is unbarred.
-pub(crate) fn better(own: Own, best: Choice, position: u8, offer: Offer) -> Choice
+pub fn better(own: Own, best: Choice, position: u8, offer: Offer) -> Choice
     ensures { λ r. ⌜ r ≡ afterVerdict (currentOf own) best position (Unbarred offer) ⌝ }
 {
     match best {

@@ -25,7 +25,7 @@ fn is_bad_edition(own: Own) -> bool
 }
 
 // The number of the first refusal that holds; 0 for none.
-pub(crate) fn refusal_of(own: Own, count: usize, room: usize) -> u8
+pub fn refusal_of(own: Own, count: usize, room: usize) -> u8
     ensures { λ r. ⌜ r ≡ refusal own count room ⌝ }
 {
     if is_bad(own) {

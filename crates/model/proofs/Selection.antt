@@ -32,7 +32,7 @@ use Rattle.model.proofs.VerdictLaws.{site-in-range, nothing-bars, admit
 
 -- ---- the criteria
 
-current-is : (q : Quantity) (p : ℕ) → notCurrent q p ≤ 0 → q ≡ Known p
+pub current-is : (q : Quantity) (p : ℕ) → notCurrent q p ≤ 0 → q ≡ Known p
 current-is (Known i) p h = go (eqb i p) refl h
   where
     go : (b : Bool) → eqb i p ≡ b → cond b 0 1 ≤ 0 → Known i ≡ Known p
@@ -47,7 +47,7 @@ not-current : (q : Quantity) (p : ℕ) → (q ≡ Known p → ⊥) → notCurren
 not-current (Known i) p h = let f : eqb i p ≡ false = ne-eqb i p (λ e. h (ap Known e)) in rw f
 not-current Unknown p h = refl
 
-at-most-one : (q : Quantity) (p : ℕ) → notCurrent q p ≤ 1
+pub at-most-one : (q : Quantity) (p : ℕ) → notCurrent q p ≤ 1
 at-most-one (Known i) p = go (eqb i p)
   where
     go : (b : Bool) → cond {A = ℕ} b 0 1 ≤ 1
