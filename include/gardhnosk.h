@@ -28,12 +28,13 @@ typedef char gardhnosk_needs_a_size_t_of_64_bits[sizeof(size_t) == 8 ? 1 : -1];
 enum {
     GARDHNOSK_NONE = 0, /* nothing to report: not refused, no leaf answer, or no candidate at this position */
 
-    /* refusals of a whole call: the first that holds */
-    GARDHNOSK_REFUSAL_OWN = 1,     /* MinHopRankIncrease is 0, or the node's own type is above 3 */
-    GARDHNOSK_REFUSAL_COUNT = 2,   /* more than 16 candidates */
-    GARDHNOSK_REFUSAL_CURRENT = 3, /* the current parent's position is not below the number of candidates */
-    GARDHNOSK_REFUSAL_OUTPUT = 4,  /* the output is shorter than 257 bytes */
-    GARDHNOSK_REFUSAL_EDITION = 5, /* the edition is not 1 or 2 */
+    /* refusals of a whole call, or of a question (not 4, and 6 alone is a question's): the first that holds */
+    GARDHNOSK_REFUSAL_OWN = 1,      /* MinHopRankIncrease is 0, or the node's own type is above 3 */
+    GARDHNOSK_REFUSAL_COUNT = 2,    /* more than 16 candidates */
+    GARDHNOSK_REFUSAL_CURRENT = 3,  /* the current parent's position is not below the number of candidates */
+    GARDHNOSK_REFUSAL_OUTPUT = 4,   /* the output is shorter than 257 bytes */
+    GARDHNOSK_REFUSAL_EDITION = 5,  /* the edition is not 1 or 2 */
+    GARDHNOSK_REFUSAL_POSITION = 6, /* the position is not below the number of candidates */
 
     /* verdicts on a candidate: it can be the parent, or it is barred */
     GARDHNOSK_UNBARRED = 10,     /* unbarred */
@@ -181,6 +182,113 @@ typedef struct {
  */
 gardhnosk_answer gardhnosk_choose(gardhnosk_own own, gardhnosk_candidates candidates, size_t count, const uint8_t *lent,
                                   size_t lent_size, uint8_t *out, size_t out_size);
+
+/* Why a candidate is the parent, or is not. */
+enum {
+    GARDHNOSK_WHY_REFUSED = 0, /* the question is refused */
+    GARDHNOSK_WHY_CHOSEN = 1,  /* it is the parent, also where the node joins as a leaf */
+    GARDHNOSK_WHY_BARRED = 2,  /* it is barred */
+    GARDHNOSK_WHY_BEATEN = 3   /* it could be the parent, but the parent is better on a criterion */
+};
+
+/* The criteria, in the order in which they decide; the first three in edition 2 only. value and against are what the two have there: */
+enum {
+    GARDHNOSK_BY_ORDER = 1,      /* interface order: the lower wins */
+    GARDHNOSK_BY_GROUNDED = 2,   /* 1 where the DODAG is grounded, 0 where not: 1 wins */
+    GARDHNOSK_BY_PREFERENCE = 3, /* root preference: the higher wins */
+    GARDHNOSK_BY_RANK = 4,       /* resulting rank: the lower wins */
+    GARDHNOSK_BY_CURRENT = 5,    /* 1 for the current parent, 0 for another: 1 wins */
+    GARDHNOSK_BY_POSITION = 6    /* position: the lower wins */
+};
+
+/* The answer of gardhnosk_why. What a kind does not have is 0, GARDHNOSK_NO_PARENT or GARDHNOSK_NO_PLACE. */
+typedef struct {
+    uint8_t refusal;   /* GARDHNOSK_NONE, or why the question is refused */
+    uint8_t kind;      /* GARDHNOSK_WHY_REFUSED to GARDHNOSK_WHY_BEATEN */
+    uint8_t number;    /* barred: the bar, as the verdict of gardhnosk_choose */
+    uint8_t parent;    /* beaten: the parent's position */
+    uint8_t criterion; /* beaten: the first criterion on which the two differ, GARDHNOSK_BY_ORDER to GARDHNOSK_BY_POSITION */
+    uint16_t place;    /* barred by 15 to 19: the index, from 0, of the object that bars */
+    uint16_t value;    /* beaten: what the candidate has on that criterion */
+    uint16_t against;  /* beaten: what the parent has */
+} gardhnosk_reason;
+
+/*
+ * Tells why the candidate at a position is the parent or is not, for the call with the same arguments. Refusals are those of
+ * gardhnosk_choose but for GARDHNOSK_REFUSAL_OUTPUT, since no output is lent; behind them GARDHNOSK_REFUSAL_POSITION.
+ */
+gardhnosk_reason gardhnosk_why(gardhnosk_own own, gardhnosk_candidates candidates, size_t count, const uint8_t *lent,
+                               size_t lent_size, size_t position);
+
+/*
+ * In what way a candidate that is barred by 11 to 14 or 19 falls short, and what which, asked and found of gardhnosk_finding are then. A
+ * number that is not named is 0. Where several ways hold, the first of this order is told.
+ */
+enum {
+    GARDHNOSK_WAY_NONE = 0, /* it is unbarred, or barred by another number: nothing is told */
+
+    /* 11: the number found is not in its range, which to asked */
+    GARDHNOSK_WAY_SP = 1,
+    GARDHNOSK_WAY_RF = 2,
+    GARDHNOSK_WAY_SR = 3,
+    GARDHNOSK_WAY_LQL = 4,
+    GARDHNOSK_WAY_TYPE = 5,
+    GARDHNOSK_WAY_COLOUR = 6,
+    GARDHNOSK_WAY_ORDER = 7,
+    GARDHNOSK_WAY_PREFERENCE = 8,
+
+    GARDHNOSK_WAY_OUTSIDE = 9, /* 12: a container of asked bytes that starts at index which; found bytes are lent */
+
+    GARDHNOSK_WAY_SHORT = 10,      /* 13: asked bytes are the least, 2; it has found */
+    GARDHNOSK_WAY_FIRST_BYTE = 11, /* 13: byte 0 is to be asked, 2; it is found */
+    GARDHNOSK_WAY_DATA = 12,       /* 13: byte 1 says that asked bytes of data follow; found follow */
+
+    GARDHNOSK_WAY_HEADER = 13, /* 14: of the header of the object with index which, of asked bytes, 4, found are there */
+    GARDHNOSK_WAY_BODY = 14,   /* 14: of the body of the object with index which, by its header asked bytes, found are there */
+
+    GARDHNOSK_WAY_AGGREGATOR = 15, /* 19, NSA: an aggregating neighbour is asked for; this one does not aggregate */
+    GARDHNOSK_WAY_OVERLOADED = 16, /* 19, NSA: one that is not overloaded is asked for; this one is overloaded */
+
+    GARDHNOSK_WAY_OTHER_TYPE = 17,     /* 19, NE, I=1: nodes of type asked; this one is of type found */
+    GARDHNOSK_WAY_LITTLE_ENERGY = 18,  /* 19, NE, I=1: nodes of type which with energy above asked; this one has found */
+    GARDHNOSK_WAY_UNKNOWN_ENERGY = 19, /* 19, NE, I=1: nodes of type which with energy above asked; this one's is not known */
+    GARDHNOSK_WAY_BARRED_TYPE = 20,    /* 19, NE, I=0: no nodes of type asked; this one is of type found, the same */
+    GARDHNOSK_WAY_BARRED_ENERGY = 21,  /* 19, NE, I=0: no nodes of type which with energy below asked; this one has found */
+    GARDHNOSK_WAY_BARRED_UNKNOWN = 22, /* 19, NE, I=0: no nodes of type which with energy below asked; this one's is not known */
+
+    GARDHNOSK_WAY_HOPS = 23,         /* 19, HP: fewer hops than asked; the container's HP metric counts found */
+    GARDHNOSK_WAY_UNKNOWN_HOPS = 24, /* 19, HP: fewer hops than asked; the container has no HP metric */
+
+    GARDHNOSK_WAY_THROUGHPUT = 25,         /* 19: asked bytes per second at least; the link has found */
+    GARDHNOSK_WAY_UNKNOWN_THROUGHPUT = 26, /* 19: asked bytes per second at least; the link's throughput is not known */
+
+    GARDHNOSK_WAY_LATENCY = 27,         /* 19: asked microseconds at most; the link has found, and nothing was received */
+    GARDHNOSK_WAY_PATH_LATENCY = 28,    /* 19: asked microseconds at most; the path has found, of which which, not 0, was received */
+    GARDHNOSK_WAY_UNKNOWN_LATENCY = 29, /* 19: asked microseconds at most; the link's latency is not known, and which was received */
+    GARDHNOSK_WAY_ETX = 30,             /* 19, ETX times 128: as GARDHNOSK_WAY_LATENCY */
+    GARDHNOSK_WAY_PATH_ETX = 31,        /* 19, ETX times 128: as GARDHNOSK_WAY_PATH_LATENCY */
+    GARDHNOSK_WAY_UNKNOWN_ETX = 32,     /* 19, ETX times 128: as GARDHNOSK_WAY_UNKNOWN_LATENCY */
+
+    GARDHNOSK_WAY_QUALITY = 33,         /* 19, LQL: a level from 1 to asked; the link has found */
+    GARDHNOSK_WAY_UNKNOWN_QUALITY = 34, /* 19, LQL: a level from 1 to asked; the link's is not known */
+
+    GARDHNOSK_WAY_LACKS_COLOUR = 35, /* 19, colour, I=1: links that have colour asked; this one has found */
+    GARDHNOSK_WAY_HAS_COLOUR = 36    /* 19, colour, I=0: links that do not have colour asked; this one has found */
+};
+
+/* The answer of gardhnosk_examine. */
+typedef struct {
+    uint8_t way; /* GARDHNOSK_WAY_NONE to GARDHNOSK_WAY_HAS_COLOUR */
+    uint64_t which;
+    uint64_t asked;
+    uint64_t found;
+} gardhnosk_finding;
+
+/*
+ * Tells what was asked of a candidate that is barred by 11 to 14 or 19, and what was found: for 19, of the object that bars it, which
+ * gardhnosk_why names. lent holds the candidate's container, as for gardhnosk_choose. Nothing is refused: the own numbers may be any.
+ */
+gardhnosk_finding gardhnosk_examine(gardhnosk_own own, gardhnosk_candidate candidate, const uint8_t *lent, size_t lent_size);
 
 /*
  * Writes the text that lists a container to the start of out, of at least GARDHNOSK_TEXT_ROOM bytes: a line of type, C, O, R, A,

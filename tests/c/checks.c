@@ -1,7 +1,8 @@
-/* include/gardhnosk.h against the library: layout, the passage of every field, every number, and the three functions. */
+/* include/gardhnosk.h against the library: layout, the passage of every field, every number, and the five functions. */
 #include "helpers.h"
+#include "reasons.h"
 
-/* ---- layout: that of the structs in crates/model/src/lib.rt, as repr(C) on x86-64 */
+/* ---- layout: that of the structs in crates/model/src and crates/reason/src, as repr(C) on x86-64 */
 
 typedef struct {
     const char *name;
@@ -22,6 +23,9 @@ static const layout_t layout[] = {
     SIZE(candidates, 640), AT(candidates, at, 0),
     SIZE(answer, 58), AT(answer, refusal, 0), AT(answer, parent, 1), AT(answer, rank, 2), AT(answer, verdicts, 4),
     AT(answer, places, 20), AT(answer, bits, 52), AT(answer, count, 54), AT(answer, leaf, 55), AT(answer, size, 56),
+    SIZE(reason, 12), AT(reason, refusal, 0), AT(reason, kind, 1), AT(reason, number, 2), AT(reason, parent, 3), AT(reason, criterion, 4),
+    AT(reason, place, 6), AT(reason, value, 8), AT(reason, against, 10),
+    SIZE(finding, 32), AT(finding, way, 0), AT(finding, which, 8), AT(finding, asked, 16), AT(finding, found, 24),
 };
 
 static void check_layout(void)
@@ -487,6 +491,10 @@ int main(void)
     check_refusals();
     check_leaves();
     check_colours();
+    check_losses();
+    check_reasons_of(call_with_all_verdicts());
+    check_questions();
+    check_findings();
     check_list();
     check_meanings();
     check_nulls();

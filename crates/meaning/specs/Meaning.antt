@@ -16,6 +16,7 @@ table =
     (3, "the current parent's position is not below the number of candidates") ∷
     (4, "the output is shorter than 257 bytes") ∷
     (5, "the edition is not 1 or 2") ∷
+    (6, "the position is not below the number of candidates") ∷
     (10, "unbarred") ∷
     (11, "Sp, Rf, Sr, LQL, type or colour out of range; in edition 2 also interface order or root preference") ∷
     (12, "the container is not inside the lent bytes") ∷

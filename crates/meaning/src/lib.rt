@@ -9,13 +9,14 @@ ghost use Rattle.meaning.specs.Table.{wordsBefore};
 pub const MEANING_ROOM: usize = 100;
 
 // The words for 0, for 1 and so on, end to end; a number without a meaning has none.
-const WORDS: [u8; 1366] = *b"\
+const WORDS: [u8; 1416] = *b"\
     nothing to report: not refused, no leaf answer, or no candidate at this position\
     MinHopRankIncrease is 0, or the node's own type is above 3\
     more than 16 candidates\
     the current parent's position is not below the number of candidates\
     the output is shorter than 257 bytes\
     the edition is not 1 or 2\
+    the position is not below the number of candidates\
     unbarred\
     Sp, Rf, Sr, LQL, type or colour out of range; in edition 2 also interface order or root preference\
     the container is not inside the lent bytes\
@@ -38,10 +39,10 @@ const WORDS: [u8; 1366] = *b"\
 
 // Where the words for each number begin, ten numbers to a line.
 const STARTS: [[u16; 10]; 4] = [
-    [0, 80, 138, 161, 228, 264, 289, 289, 289, 289],
-    [289, 297, 395, 437, 519, 580, 662, 737, 803, 841],
-    [874, 942, 1020, 1020, 1020, 1020, 1020, 1020, 1020, 1020],
-    [1020, 1020, 1056, 1116, 1202, 1230, 1293, 1366, 1366, 1366],
+    [0, 80, 138, 161, 228, 264, 289, 339, 339, 339],
+    [339, 347, 445, 487, 569, 630, 712, 787, 853, 891],
+    [924, 992, 1070, 1070, 1070, 1070, 1070, 1070, 1070, 1070],
+    [1070, 1070, 1106, 1166, 1252, 1280, 1343, 1416, 1416, 1416],
 ];
 
 // Where the words for a number begin among all words.
@@ -53,7 +54,7 @@ fn start_of(number: usize) -> usize
 }
 
 // All words: one copy for a call, where an index into the constant would make one each time.
-fn all_words() -> [u8; 1366]
+fn all_words() -> [u8; 1416]
     ensures { λ r. ⌜ r ≡ wordsBefore 37 ⌝ }
 {
     WORDS

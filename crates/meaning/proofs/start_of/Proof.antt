@@ -17,10 +17,10 @@ use Rattle.meaning.proofs.start_of.Tie as tie
 -- the rows of the code's table
 abbrev starts : List (List ℕ)
 starts =
-    (0 ∷ 80 ∷ 138 ∷ 161 ∷ 228 ∷ 264 ∷ 289 ∷ 289 ∷ 289 ∷ 289 ∷ []) ∷
-    (289 ∷ 297 ∷ 395 ∷ 437 ∷ 519 ∷ 580 ∷ 662 ∷ 737 ∷ 803 ∷ 841 ∷ []) ∷
-    (874 ∷ 942 ∷ 1020 ∷ 1020 ∷ 1020 ∷ 1020 ∷ 1020 ∷ 1020 ∷ 1020 ∷ 1020 ∷ []) ∷
-    (1020 ∷ 1020 ∷ 1056 ∷ 1116 ∷ 1202 ∷ 1230 ∷ 1293 ∷ 1366 ∷ 1366 ∷ 1366 ∷ []) ∷
+    (0 ∷ 80 ∷ 138 ∷ 161 ∷ 228 ∷ 264 ∷ 289 ∷ 339 ∷ 339 ∷ 339 ∷ []) ∷
+    (339 ∷ 347 ∷ 445 ∷ 487 ∷ 569 ∷ 630 ∷ 712 ∷ 787 ∷ 853 ∷ 891 ∷ []) ∷
+    (924 ∷ 992 ∷ 1070 ∷ 1070 ∷ 1070 ∷ 1070 ∷ 1070 ∷ 1070 ∷ 1070 ∷ 1070 ∷ []) ∷
+    (1070 ∷ 1070 ∷ 1106 ∷ 1166 ∷ 1252 ∷ 1280 ∷ 1343 ∷ 1416 ∷ 1416 ∷ 1416 ∷ []) ∷
     []
 
 abbrev startOf : ℕ → ℕ
@@ -34,11 +34,11 @@ unfolding wordsBefore meaning codesFrom wordsIn table right
 starts-right n h = eqb-true (startOf n) (length (wordsBefore n)) (at-each right 38 n refl (omega arith))
 
 few : ℕ → Bool
-few n = leb (startOf n) 1366
+few n = leb (startOf n) 1416
 
-starts-few : (n : ℕ) → n ≤ 37 → startOf n ≤ 1366
+starts-few : (n : ℕ) → n ≤ 37 → startOf n ≤ 1416
 unfolding few
-starts-few n h = leb-true (startOf n) 1366 (at-each few 38 n refl (omega arith))
+starts-few n h = leb-true (startOf n) 1416 (at-each few 38 n refl (omega arith))
 
 mul-result : tie.Need-mul-result
 mul-result c = search needs
