@@ -5,8 +5,9 @@ use std::env::Args;
 pub const USAGE: &str = "usage: compare [--seed S] [--count N] [--from K] | --examples | --help
   tries document 01's examples, then N calls of seed S, the first of them number K
   (S = 6551, N = 300000, K = 0 unless given); --examples tries the examples alone
-  from 200000 calls on, every number and sort of limit, colour, edition and pair is to be there
-  often enough
+  one call in four is also asked for the reason at each position, and for each finding
+  from 200000 calls on, every number and sort of limit, colour, edition, reason, finding and pair is
+  to be there often enough
 exit status: 0 all agrees; 1 a difference, or something there too seldom; 2 bad arguments";
 
 pub struct Arguments {

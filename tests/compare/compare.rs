@@ -3,8 +3,9 @@
 use super::generate::Call;
 use super::guarded::Guarded;
 use super::random::Random;
-use super::reference::data::Answer;
+use super::reference::data::{Answer, Finding, Reason};
 use super::{library, reference};
+use std::fmt::Debug;
 
 /// What a call gave: its answer and the output after it.
 #[derive(Clone, PartialEq, Eq)]
@@ -115,4 +116,77 @@ pub fn listing(
         expected,
         given,
     }))
+}
+
+/// Where what is told of the candidate at a position differs, what is expected and what the library
+/// told.
+pub struct ToldDifference {
+    pub what: &'static str,
+    pub position: usize,
+    pub expected: String,
+    pub given: String,
+}
+
+impl ToldDifference {
+    fn new<T: Debug>(what: &'static str, position: usize, expected: &T, given: &T) -> Self {
+        ToldDifference {
+            what,
+            position,
+            expected: format!("{expected:?}"),
+            given: format!("{given:?}"),
+        }
+    }
+
+    /// What both tell does not fit what the library chose.
+    pub fn misfit(
+        what: &'static str,
+        position: usize,
+        answer: &Answer,
+        given: &impl Debug,
+    ) -> Self {
+        ToldDifference {
+            what,
+            position,
+            expected: format!("what fits {answer:?}"),
+            given: format!("{given:?}"),
+        }
+    }
+}
+
+/// The reason at a position by the library, to which the lent bytes are lent, and by the reference.
+pub fn reason(lent: &mut Guarded, call: &Call, position: usize) -> Result<Reason, ToldDifference> {
+    let (own, candidates, count) = (call.own, &call.candidates, call.count);
+    let given = library::why(own, candidates, count, lent.part(), position);
+    let expected = reference::why(own, candidates, count, &call.lent, position);
+    told("the reason differs", lent, position, expected, given)
+}
+
+/// The finding of the candidate at a position, in the same way.
+pub fn finding(
+    lent: &mut Guarded,
+    call: &Call,
+    position: usize,
+) -> Result<Finding, ToldDifference> {
+    let candidate = &call.candidates[position];
+    let given = library::examine(call.own, candidate, lent.part());
+    let expected = reference::examine(call.own, candidate, &call.lent);
+    told("the finding differs", lent, position, expected, given)
+}
+
+/// What the library told, if the reference tells the same and nothing was written to.
+fn told<T: Debug + PartialEq>(
+    differs: &'static str,
+    lent: &Guarded,
+    position: usize,
+    expected: T,
+    given: T,
+) -> Result<T, ToldDifference> {
+    let what = if !lent.stands() {
+        "the lent bytes, or those beside them, were written to"
+    } else if given != expected {
+        differs
+    } else {
+        return Ok(given);
+    };
+    Err(ToldDifference::new(what, position, &expected, &given))
 }

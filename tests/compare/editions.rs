@@ -169,8 +169,17 @@ impl Editions {
     }
 }
 
+/// How many criteria an edition leaves out, the first.
+pub fn left_out(edition: u8) -> usize {
+    if edition == FIRST_EDITION {
+        NEW
+    } else {
+        0
+    }
+}
+
 /// For whom each criterion is, in edition 2's order: less for the parent, greater for the other.
-fn criteria(call: &Call, parent: usize, other: usize) -> [Ordering; ALL] {
+pub fn criteria(call: &Call, parent: usize, other: usize) -> [Ordering; ALL] {
     let [one, two] = [parent, other].map(|position| &call.candidates[position].neighbour);
     let is_current = |position| call.own.current() == Some(position);
     [
@@ -184,7 +193,7 @@ fn criteria(call: &Call, parent: usize, other: usize) -> [Ordering; ALL] {
 }
 
 /// The first criterion that is for the one or the other; two positions are never the same.
-fn decisive(criteria: &[Ordering]) -> usize {
+pub fn decisive(criteria: &[Ordering]) -> usize {
     let first = criteria.iter().position(|one| one.is_ne());
     first.expect("two positions")
 }

@@ -1,6 +1,6 @@
 //! The proved static library, behind safe functions of the reference's form.
 
-use super::reference::data::{Answer, Candidate, Own, CANDIDATES};
+use super::reference::data::{Answer, Candidate, Finding, Own, Reason, CANDIDATES};
 
 #[repr(C)]
 #[derive(Clone, Copy)]
@@ -18,6 +18,20 @@ extern "C" {
         out: *mut u8,
         out_len: usize,
     ) -> Answer;
+    fn gardhnosk_why(
+        own: Own,
+        candidates: Candidates,
+        count: usize,
+        lent: *const u8,
+        lent_len: usize,
+        position: usize,
+    ) -> Reason;
+    fn gardhnosk_examine(
+        own: Own,
+        candidate: Candidate,
+        lent: *const u8,
+        lent_len: usize,
+    ) -> Finding;
     fn gardhnosk_list(container: *const u8, len: usize, out: *mut u8, out_len: usize) -> usize;
 }
 
@@ -43,6 +57,34 @@ pub fn choose(
             out.len(),
         )
     }
+}
+
+/// The library's reason at a position.
+pub fn why(
+    own: Own,
+    candidates: &[Candidate; CANDIDATES],
+    count: usize,
+    lent: &mut [u8],
+    position: usize,
+) -> Reason {
+    let candidates = Candidates { at: *candidates };
+    // SAFETY: the pointer is good for the length beside it.
+    unsafe {
+        gardhnosk_why(
+            own,
+            candidates,
+            count,
+            lent.as_mut_ptr(),
+            lent.len(),
+            position,
+        )
+    }
+}
+
+/// The library's finding of a candidate.
+pub fn examine(own: Own, candidate: &Candidate, lent: &mut [u8]) -> Finding {
+    // SAFETY: the pointer is good for the length beside it.
+    unsafe { gardhnosk_examine(own, *candidate, lent.as_mut_ptr(), lent.len()) }
 }
 
 /// The library's listing of a container.

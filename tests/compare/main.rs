@@ -1,12 +1,15 @@
-//! Compares the proved static library with a second implementation on random calls, and tries
-//! demand 3, and what edition 1 does not read, on pairs of the library's calls.
+//! Compares the proved static library with a second implementation on random calls, and in what is
+//! told of their candidates, and tries demand 3, and what edition 1 does not read, on pairs of the
+//! library's calls.
 
 mod arguments;
 mod colours;
 mod compare;
 mod cut;
 mod editions;
+mod examine;
 mod examples;
+mod findings;
 mod first_edition;
 mod generate;
 mod guarded;
@@ -15,10 +18,12 @@ mod limits;
 mod pairs;
 mod random;
 mod ranges;
+mod reasons;
 mod reference;
 mod replay;
 mod report;
 mod run;
+mod why;
 
 use arguments::{Arguments, Wanted};
 use std::process::ExitCode;

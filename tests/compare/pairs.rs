@@ -1,6 +1,6 @@
 //! Demand 3 on pairs of calls of the library: the second has every container cut.
 
-use super::compare::{choice, Difference, Given};
+use super::compare::{choice, Difference, Given, ToldDifference};
 use super::cut;
 use super::generate::{lay, pattern, Call};
 use super::random::Random;
@@ -14,14 +14,16 @@ pub struct Pair {
     pub given: [Given; 2],
 }
 
-/// What is wrong with a pair.
+/// What is wrong with a pair, or with what is told of a call.
 pub enum Wrong {
     /// A sentence of demand 3 does not hold.
     Sentence(String, Box<Pair>),
     /// Edition 1 gives something else where what it does not read is other.
     FirstEdition(Box<Pair>),
-    /// A call that the pair needs differs from the reference.
+    /// A further call that is needed differs from the reference.
     Call(Box<Call>, Box<Difference>),
+    /// What is told of a candidate differs from the reference, or does not fit the choice.
+    Told(Box<Call>, Box<ToldDifference>),
 }
 
 /// Which edition and which sorts of containers a pair had.
@@ -77,7 +79,7 @@ pub fn check(random: &mut Random, call: &Call, given: &Given) -> Result<Option<S
     }
 }
 
-/// A further call, for a pair.
+/// A further call, for a pair or for what is told.
 pub fn run(random: &mut Random, call: &Call) -> Result<Given, Wrong> {
     choice(random, call).map_err(|difference| Wrong::Call(Box::new(call.clone()), difference))
 }

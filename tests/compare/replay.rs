@@ -1,6 +1,6 @@
 //! A difference is printed so that it can be replayed by a command, or by hand.
 
-use super::compare::{Difference, Given, ListingDifference};
+use super::compare::{Difference, Given, ListingDifference, ToldDifference};
 use super::generate::Call;
 use super::pairs::{Pair, Wrong};
 
@@ -44,12 +44,13 @@ impl Place {
         }
     }
 
-    pub fn pair(&self, wrong: &Wrong) {
+    pub fn wrong(&self, wrong: &Wrong) {
         match wrong {
             Wrong::Call(call, difference) => {
                 self.choice(call, difference);
-                println!("(a call made for a pair)");
+                println!("(a further call, made for a pair or for what is told)");
             }
+            Wrong::Told(call, difference) => self.told(call, difference),
             Wrong::Sentence(sentence, pair) => {
                 self.both(&format!("demand 3 does not hold: {sentence}"), pair);
             }
@@ -57,6 +58,14 @@ impl Place {
                 self.both("edition 1 reads order, grounded or preference", pair);
             }
         }
+    }
+
+    fn told(&self, call: &Call, difference: &ToldDifference) {
+        self.print(difference.what);
+        print_call(call);
+        println!("position: {}", difference.position);
+        println!("expected: {}", difference.expected);
+        println!("given: {}", difference.given);
     }
 
     fn both(&self, what: &str, pair: &Pair) {

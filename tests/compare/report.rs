@@ -3,13 +3,15 @@
 use super::colours::Colours;
 use super::compare::{Given, Listed};
 use super::editions::Editions;
+use super::findings::Findings;
 use super::generate::Call;
 use super::limits::Limits;
 use super::pairs::Sort;
+use super::reasons::Reasons;
 use super::reference::data::Answer;
 
-/// Every number is to be given so often, every sort of limit, colour and edition to be tried so
-/// often, and every sort of pair.
+/// Every number is to be given so often, every sort of limit, colour, edition, reason and finding
+/// to be tried so often, and every sort of pair.
 const LEAST: u64 = 100;
 const LEAST_PAIRS: u64 = 5000;
 
@@ -20,6 +22,12 @@ const REFUSALS: [u8; 6] = [0, 1, 2, 3, 4, 5];
 const VERDICTS: [u8; 13] = [0, 10, 11, 12, 13, 14, 15, 16, 17, 18, 19, 20, 21];
 const LEAVES: [u8; 7] = [0, 31, 32, 33, 34, 35, 36];
 const LISTINGS: [u8; 6] = [0, 13, 14, 15, 16, 17];
+
+/// How often each number of 8 bits was given.
+pub type Counts = [u64; 256];
+
+/// A name, the numbers that are to be given, and how often each was.
+pub type Row<'a> = (&'static str, Vec<u8>, &'a Counts);
 
 /// How often each sort of pair was tried.
 #[derive(Default)]
@@ -39,14 +47,16 @@ struct Pairs {
 
 pub struct Report {
     calls: u64,
-    refusals: [u64; 256],
-    verdicts: [u64; 256],
-    leaves: [u64; 256],
-    listings: [u64; 256],
+    refusals: Counts,
+    verdicts: Counts,
+    leaves: Counts,
+    listings: Counts,
     without_room: u64,
     limits: Limits,
     colours: Colours,
     editions: Editions,
+    pub reasons: Reasons,
+    pub findings: Findings,
     pairs: Pairs,
 }
 
@@ -62,6 +72,8 @@ impl Report {
             limits: Limits::default(),
             colours: Colours::default(),
             editions: Editions::default(),
+            reasons: Reasons::new(),
+            findings: Findings::new(),
             pairs: Pairs::default(),
         }
     }
@@ -118,22 +130,36 @@ impl Report {
     /// Prints what was given how often.
     pub fn print(&self) {
         println!("calls: {}", self.calls);
-        print_counts("refusal", &REFUSALS, &self.refusals);
-        print_counts("verdict", &VERDICTS, &self.verdicts);
-        print_counts("leaf", &LEAVES, &self.leaves);
-        print_counts("listing refused", &LISTINGS, &self.listings);
+        for (name, numbers, counts) in self.numbers() {
+            print_counts(name, &numbers, counts);
+        }
         println!("listing without room: {}", self.without_room);
         for (name, count) in self.sorts().into_iter().chain(self.pair_sorts()) {
             println!("{name}: {count}");
         }
     }
 
-    /// How often each sort of limit, colour and edition was tried.
+    /// The numbers of answers, listings, reasons and findings, and how often each was given.
+    fn numbers(&self) -> Vec<Row<'_>> {
+        let mut rows = vec![
+            ("refusal", REFUSALS.to_vec(), &self.refusals),
+            ("verdict", VERDICTS.to_vec(), &self.verdicts),
+            ("leaf", LEAVES.to_vec(), &self.leaves),
+            ("listing refused", LISTINGS.to_vec(), &self.listings),
+        ];
+        rows.extend(self.reasons.numbers());
+        rows.extend(self.findings.numbers());
+        rows
+    }
+
+    /// How often each sort of limit, colour, edition, reason and finding was tried.
     fn sorts(&self) -> Vec<(&'static str, u64)> {
         let limits = self.limits.counts().into_iter();
-        let colours = self.colours.counts();
-        let editions = self.editions.counts();
-        limits.chain(colours).chain(editions).collect()
+        let mut sorts: Vec<(&'static str, u64)> = limits.chain(self.colours.counts()).collect();
+        sorts.extend(self.editions.counts());
+        sorts.extend(self.reasons.counts());
+        sorts.extend(self.findings.counts());
+        sorts
     }
 
     fn pair_sorts(&self) -> [(&'static str, u64); 11] {
@@ -156,14 +182,8 @@ impl Report {
     /// What was given or tried too seldom, a line each; a run of few calls is not asked.
     pub fn too_seldom(&self) -> Vec<String> {
         let mut lines = Vec::new();
-        let counted = [
-            ("refusal", &REFUSALS[..], &self.refusals),
-            ("verdict", &VERDICTS[..], &self.verdicts),
-            ("leaf", &LEAVES[..], &self.leaves),
-            ("listing refused", &LISTINGS[..], &self.listings),
-        ];
-        for (name, numbers, counts) in counted {
-            for &number in numbers {
+        for (name, numbers, counts) in self.numbers() {
+            for number in numbers {
                 if counts[usize::from(number)] < LEAST {
                     lines.push(format!(
                         "{name} {number} was given fewer than {LEAST} times"
@@ -188,7 +208,7 @@ impl Report {
     }
 }
 
-fn print_counts(name: &str, numbers: &[u8], counts: &[u64; 256]) {
+fn print_counts(name: &str, numbers: &[u8], counts: &Counts) {
     let counted: Vec<String> = numbers
         .iter()
         .map(|&number| format!("{number}: {}", counts[usize::from(number)]))

@@ -8,7 +8,7 @@ use super::random::Random;
 use super::reference::LISTING_ROOM;
 use super::replay::Place;
 use super::report::{Report, ASKED_FROM};
-use super::{compare, first_edition, pairs};
+use super::{compare, examine, first_edition, pairs, why};
 
 /// A run stops after so many differences.
 const MOST_DIFFERENCES: usize = 5;
@@ -19,6 +19,10 @@ const GUARDS: u64 = 1;
 const LISTING: u64 = 2;
 const PAIR: u64 = 3;
 const UNREAD: u64 = 4;
+const TOLD: u64 = 5;
+
+/// Reasons and findings are asked for once in so many calls.
+const TOLD_ONCE_IN: usize = 4;
 
 /// Says which call was tried, should the program panic in it.
 struct Trying<'a>(&'a Place);
@@ -63,8 +67,8 @@ pub fn run(arguments: &Arguments) -> bool {
     differences == 0 && too_seldom.is_empty()
 }
 
-/// Tries one call, the listings of its containers and its pairs, up to the first difference, which
-/// is printed; tells whether there was none.
+/// Tries one call, the listings of its containers, its pairs and what is told of it, up to the
+/// first difference, which is printed; tells whether there was none.
 fn one(place: &Place, report: &mut Report) -> bool {
     let _trying = Trying(place);
     let stream = |usage| Random::of(place.seed, place.call, usage);
@@ -82,13 +86,14 @@ fn one(place: &Place, report: &mut Report) -> bool {
         return false;
     }
     if let Err(wrong) = beside(stream, &call, &given, report) {
-        place.pair(&wrong);
+        place.wrong(&wrong);
         return false;
     }
     true
 }
 
-/// Tries the pairs that a call is the first of: demand 3's, and what edition 1 does not read.
+/// Tries the pairs that a call is the first of, demand 3's and what edition 1 does not read, and of
+/// some calls what is told.
 fn beside(
     stream: impl Fn(u64) -> Random,
     call: &Call,
@@ -101,7 +106,20 @@ fn beside(
     if first_edition::check(&mut stream(UNREAD), call, given)? {
         report.first_edition(&given.answer);
     }
+    let mut random = stream(TOLD);
+    if random.once_in(TOLD_ONCE_IN) {
+        told(&mut random, call, given, report)?;
+    }
     Ok(())
+}
+
+/// Asks for the reason at every position of a call, and for the finding of every candidate.
+fn told(random: &mut Random, call: &Call, given: &Given, report: &mut Report) -> Result<(), Wrong> {
+    let answer = why::answer(random, call, given)?;
+    let short = given.answer.refusal == why::NO_ROOM;
+    why::check(random, call, &answer, short, &mut report.reasons)
+        .and_then(|()| examine::check(random, call, &answer, &mut report.findings))
+        .map_err(|difference| Wrong::Told(Box::new(call.clone()), Box::new(difference)))
 }
 
 /// Lists the call's containers, and one part of the lent run that need not be a container.

@@ -1,6 +1,6 @@
 //! Link colours: which links meet a constraint, what is recorded of them, and bars 11 and 16.
 
-use super::{bytes, Trial, NEIGHBOUR, OWN};
+use super::{bytes, framed, Trial, NEIGHBOUR, OWN};
 use crate::reference::data::{Neighbour, NO_PLACE};
 
 /// A link's colour, a constraint's sub-object, and the verdict.
@@ -152,7 +152,7 @@ fn repeats(trial: &mut Trial) {
 
 /// The verdict on a container of such data, and its place.
 fn expect_bar(trial: &mut Trial, data: &str, verdict: u8, place: u16) {
-    let container = format!("02 {:02X} {data}", bytes(data).len());
+    let container = framed(data);
     let (answer, _) = trial.one(OWN, NEIGHBOUR, &container);
     let given = (answer.verdicts[0], answer.places[0]);
     trial.expect(&container, (verdict, place), given);

@@ -6,7 +6,7 @@ use crate::reference::data::{
 };
 
 /// Interface order, grounded or not (1 or 0), root preference, resulting rank.
-type Fields = (u8, u8, u8, u16);
+pub type Fields = (u8, u8, u8, u16);
 
 /// Two candidates, the current position, and the parent in edition 1 and in edition 2.
 const CHOICES: &[([Fields; 2], Option<usize>, [u8; 2])] = &[
@@ -63,7 +63,7 @@ const RANGES: &[(u8, u8, &str, [u8; 2])] = &[
     (7, 8, "", [13, 11]),
 ];
 
-const EDITIONS: [u8; 2] = [FIRST_EDITION, SECOND_EDITION];
+pub const EDITIONS: [u8; 2] = [FIRST_EDITION, SECOND_EDITION];
 
 pub fn hold(trial: &mut Trial) {
     for &(fields, current, parents) in CHOICES {
@@ -110,7 +110,7 @@ fn chosen(trial: &mut Trial, edition: u8, fields: [Fields; 2], current: Option<u
 
 /// A neighbour of this resulting rank, so many units away, whose link has an ETX of as many. Where
 /// it is not grounded every other flag is set.
-fn neighbour((order, grounded, preference, rank): Fields, units: u8) -> Neighbour {
+pub fn neighbour((order, grounded, preference, rank): Fields, units: u8) -> Neighbour {
     Neighbour {
         order,
         flags: [!GROUNDED, GROUNDED | ETX_KNOWN][usize::from(grounded)],

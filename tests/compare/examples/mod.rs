@@ -6,10 +6,12 @@ mod choices;
 mod colours;
 mod cuts;
 mod editions;
+mod findings;
 mod hops;
 mod leaves;
 mod listings;
 mod ranks;
+mod reasons;
 mod refusals;
 
 use super::reference::data::*;
@@ -53,6 +55,8 @@ struct Trial {
     name: &'static str,
     choose: fn(Own, &[Candidate; CANDIDATES], usize, &mut [u8], &mut [u8]) -> Answer,
     list: fn(&mut [u8], &mut [u8]) -> usize,
+    why: fn(Own, &[Candidate; CANDIDATES], usize, &mut [u8], usize) -> Reason,
+    examine: fn(Own, &Candidate, &mut [u8]) -> Finding,
     failed: Vec<String>,
 }
 
@@ -65,12 +69,18 @@ pub fn failed() -> Vec<String> {
                 reference::choose(own, candidates, count, lent, out)
             },
             list: |container, out| reference::list(container, out),
+            why: |own, candidates, count, lent, position| {
+                reference::why(own, candidates, count, lent, position)
+            },
+            examine: |own, candidate, lent| reference::examine(own, candidate, lent),
             failed: Vec::new(),
         },
         Trial {
             name: "the library",
             choose: library::choose,
             list: library::list,
+            why: library::why,
+            examine: library::examine,
             failed: Vec::new(),
         },
     ];
@@ -84,6 +94,8 @@ pub fn failed() -> Vec<String> {
         choices::hold(trial);
         editions::hold(trial);
         listings::hold(trial);
+        reasons::hold(trial);
+        findings::hold(trial);
     }
     let [reference, library] = trials.map(|trial| trial.failed);
     [reference, library, cuts::failed()].concat()
@@ -124,6 +136,11 @@ fn with_current(own: Own, current: Option<usize>) -> Own {
         },
         None => own,
     }
+}
+
+/// The container of such data, in hex.
+fn framed(data: &str) -> String {
+    format!("02 {:02X} {data}", bytes(data).len())
 }
 
 fn bytes(hex: &str) -> Vec<u8> {

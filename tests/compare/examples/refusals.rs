@@ -4,25 +4,25 @@ use super::{Trial, BEFORE, OWN};
 use crate::reference::data::{Answer, Candidate, Own, CANDIDATES, CURRENT_GIVEN};
 
 /// These own numbers in an edition.
-const fn named(edition: u8, own: Own) -> Own {
+pub const fn named(edition: u8, own: Own) -> Own {
     Own { edition, ..own }
 }
 
 /// Own numbers of an edition.
-const fn edition(edition: u8) -> Own {
+pub const fn edition(edition: u8) -> Own {
     named(edition, OWN)
 }
 
-const CURRENT: Own = Own {
+pub const CURRENT: Own = Own {
     flags: CURRENT_GIVEN,
     ..edition(3)
 };
-const PAST: Own = Own {
+pub const PAST: Own = Own {
     current: 1,
     ..CURRENT
 };
-const NO_UNIT: Own = Own { minhop: 0, ..PAST };
-const TYPE_4: Own = Own {
+pub const NO_UNIT: Own = Own { minhop: 0, ..PAST };
+pub const TYPE_4: Own = Own {
     nodetype: 4,
     ..PAST
 };

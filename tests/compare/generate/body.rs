@@ -105,9 +105,9 @@ impl Maker<'_> {
         }
     }
 
-    /// An NE constraint on the neighbour's type, or on another, at or beside its energy.
+    /// An NE constraint on the neighbour's type, or less often on another, at or beside its energy.
     fn energy_asked(&mut self) -> Body {
-        let same = self.random.once_in(2);
+        let same = !self.random.once_in(3);
         let t = if same {
             self.link.nodetype
         } else {

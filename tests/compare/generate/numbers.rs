@@ -4,7 +4,8 @@ use super::colour::colour;
 use super::scene::Scene;
 use crate::random::Random;
 use crate::reference::data::{
-    Candidate, Neighbour, Own, CANDIDATES, FIRST_EDITION, SECOND_EDITION,
+    Candidate, Neighbour, Own, CANDIDATES, ENERGY_KNOWN, ETX_KNOWN, FIRST_EDITION, LATENCY_KNOWN,
+    SECOND_EDITION, THROUGHPUT_KNOWN,
 };
 
 /// How many candidates a valid call has.
@@ -30,7 +31,8 @@ pub fn own(random: &mut Random) -> Own {
     }
 }
 
-/// A neighbour in range, whose resulting rank is often the scene's, or one beside it.
+/// A neighbour in range, whose resulting rank is often the scene's, or one beside it; sometimes one
+/// of its values is not known.
 pub fn neighbour(random: &mut Random, own: &Own, scene: &Scene) -> Neighbour {
     let (sp, rf, sr) = steps(random);
     let increase = u32::from(rf * sp + sr) * u32::from(own.minhop);
@@ -48,6 +50,10 @@ pub fn neighbour(random: &mut Random, own: &Own, scene: &Scene) -> Neighbour {
     neighbour.sr = sr;
     neighbour.nodetype = random.below(4) as u8;
     neighbour.flags = mostly_known(random);
+    if random.once_in(4) {
+        neighbour.flags &=
+            !random.pick(&[ENERGY_KNOWN, ETX_KNOWN, LATENCY_KNOWN, THROUGHPUT_KNOWN]);
+    }
     neighbour.lql = random.below(8) as u8;
     neighbour.colour = colour(random);
     scene.site.set(random, own.edition, &mut neighbour);

@@ -88,12 +88,13 @@ impl<'a> Maker<'a> {
             }
             Role::Recorded => (self.record(kind, room), self.random.below(8) as u8),
         };
-        // where all is to be in order a constraint that is not met is optional, and an aggregated
-        // metric that cannot be updated is left out
-        if role == Role::Aggregated && self.scene.passing && !body.smooth {
+        // where constraints are to be met one that is not is optional; where metrics are to be
+        // updated too an aggregated one that cannot be is left out
+        let fitting = self.scene.fitting;
+        if role == Role::Aggregated && fitting && self.scene.passing && !body.smooth {
             return Vec::new();
         }
-        let unmet = role == Role::Constraint && self.scene.fitting && !body.smooth;
+        let unmet = role == Role::Constraint && fitting && !body.smooth;
         let optional = unmet || self.random.once_in(4);
         let mut bytes = body.bytes;
         if kind <= 3 && role != Role::Recorded && self.scene.tlvs {

@@ -57,7 +57,7 @@ fn mixed(random: &mut Random, scene: &Scene, own: &Own, link: &Neighbour) -> Vec
 }
 
 /// The types and roles that are settled for so many objects: often a limit on latency or ETX with
-/// a metric before it or behind it, and often an HP metric.
+/// a metric before it or behind it, often an HP metric, and often an NE constraint.
 fn settle(maker: &mut Maker, objects: usize) -> Vec<Option<(u8, Role)>> {
     let mut settled = vec![None; objects];
     if objects > 1 && maker.random.once_in(3) {
@@ -71,6 +71,10 @@ fn settle(maker: &mut Maker, objects: usize) -> Vec<Option<(u8, Role)>> {
     if let Some(free @ None) = settled.get_mut(hops_at) {
         *free = Some((3, Role::Aggregated));
         maker.counted = true;
+    }
+    let energy_at = maker.random.below(4 * objects + 1);
+    if let Some(free @ None) = settled.get_mut(energy_at) {
+        *free = Some((2, Role::Constraint));
     }
     settled
 }

@@ -7,14 +7,14 @@ use super::standing::Standing;
 use super::verdict::verdict;
 
 /// The shortest output that is never too short: a container of 255 data bytes.
-const OUTPUT: usize = 257;
+pub const OUTPUT: usize = 257;
 
 /// The verdict number of an unbarred candidate.
 const UNBARRED: u8 = 10;
 
 /// The preferred parent so far.
-struct Parent<'a> {
-    standing: Standing,
+pub struct Parent<'a> {
+    pub standing: Standing,
     container: Container<'a>,
 }
 
@@ -48,7 +48,7 @@ pub fn choose(
 }
 
 /// The first refusal of the whole call, or 0.
-fn refusal(own: &Own, count: usize, room: usize) -> u8 {
+pub fn refusal(own: &Own, count: usize, room: usize) -> u8 {
     if own.minhop == 0 || own.nodetype > 3 {
         1
     } else if count > CANDIDATES {
@@ -66,7 +66,7 @@ fn refusal(own: &Own, count: usize, room: usize) -> u8 {
 
 /// The unbarred candidate that stands before all others. Verdicts, bits and their count go into
 /// the answer.
-fn preferred<'a>(
+pub fn preferred<'a>(
     own: &Own,
     candidates: &[Candidate],
     lent: &'a [u8],

@@ -6,7 +6,7 @@ use super::constraint::word;
 pub const HIGHEST: u16 = 1023;
 
 /// The I bit of a constraint's sub-object.
-const INCLUDED: u16 = 0x01;
+pub const INCLUDED: u16 = 0x01;
 
 /// The bits between colour and I, in the second byte of a constraint's sub-object.
 pub const RESERVED: u8 = 0x3E;

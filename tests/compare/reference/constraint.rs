@@ -6,8 +6,8 @@ use super::data::{Neighbour, AGGREGATOR, OVERLOADED};
 use super::object::{Object, COLOUR, ETX, HP, LATENCY, LQL, NE, NSA, THROUGHPUT};
 
 /// The I bit and the E bit of an NE flags byte; T stands between them.
-const INCLUDED: u8 = 0x08;
-const ESTIMATED: u8 = 0x01;
+pub const INCLUDED: u8 = 0x08;
+pub const ESTIMATED: u8 = 0x01;
 
 /// Whether the neighbour meets a known constraint of a well-formed container. What is unknown
 /// meets no limit.

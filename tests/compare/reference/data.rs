@@ -1,4 +1,4 @@
-//! The numbers supplied and the answer, laid out as the C interface of the library has them.
+//! The numbers supplied and the answers, laid out as the C interface of the library has them.
 
 pub const CANDIDATES: usize = 16;
 pub const NO_PARENT: u8 = 255;
@@ -129,4 +129,44 @@ impl Answer {
             size: 0,
         }
     }
+}
+
+/// Why the candidate at a position is the parent, or is not.
+#[repr(C)]
+#[derive(Clone, Copy, Debug, PartialEq, Eq)]
+pub struct Reason {
+    pub refusal: u8,
+    pub kind: u8,
+    pub number: u8,
+    pub parent: u8,
+    pub criterion: u8,
+    pub place: u16,
+    pub value: u16,
+    pub against: u16,
+}
+
+impl Reason {
+    /// The reason that holds nothing but a kind, and for a refused question its number.
+    pub fn bare(refusal: u8, kind: u8) -> Reason {
+        Reason {
+            refusal,
+            kind,
+            number: 0,
+            parent: NO_PARENT,
+            criterion: 0,
+            place: NO_PLACE,
+            value: 0,
+            against: 0,
+        }
+    }
+}
+
+/// In what way a barred candidate falls short; by default nothing is told.
+#[repr(C)]
+#[derive(Clone, Copy, Debug, Default, PartialEq, Eq)]
+pub struct Finding {
+    pub way: u8,
+    pub which: u64,
+    pub asked: u64,
+    pub found: u64,
 }

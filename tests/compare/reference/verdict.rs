@@ -7,8 +7,8 @@ use super::data::{Candidate, Neighbour, Own, SECOND_EDITION};
 use super::rank::allowed;
 
 /// The highest interface order, and the highest root preference.
-const HIGHEST_ORDER: u8 = 7;
-const HIGHEST_PREFERENCE: u8 = 7;
+pub const HIGHEST_ORDER: u8 = 7;
+pub const HIGHEST_PREFERENCE: u8 = 7;
 
 /// Bars 11 to 21 in document 01's order.
 pub fn verdict<'a>(
@@ -43,7 +43,7 @@ fn in_range(edition: u8, neighbour: &Neighbour) -> bool {
 }
 
 /// The candidate's part of the lent run, if it lies inside; a sum beyond 64 bits does not.
-fn part<'a>(candidate: &Candidate, lent: &'a [u8]) -> Option<&'a [u8]> {
+pub fn part<'a>(candidate: &Candidate, lent: &'a [u8]) -> Option<&'a [u8]> {
     let end = candidate.start.checked_add(candidate.size)?;
     lent.get(candidate.start..end)
 }
