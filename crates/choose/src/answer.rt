@@ -6,8 +6,10 @@ use crate::names;
 use crate::report;
 use crate::say::Buffer;
 use crate::settings;
+use crate::state;
 use crate::state::Rows;
 use crate::state::State;
+use crate::why;
 use model::Candidate;
 use model::Neighbour;
 use model::Own;
@@ -15,7 +17,7 @@ use model::Rank;
 
 // A flag's bit where its word was given.
 fn flag(given: u64, k: usize, bit: u8) -> u8
-    requires { ⌜ k < 26 ⌝ }
+    requires { ⌜ k < 28 ⌝ }
 {
     if settings::has(given, k) {
         return bit;
@@ -43,7 +45,7 @@ fn neighbour_flags(given: u64) -> u8 {
 
 // The edition: 1 where none is named, as files have it that were written before there were two.
 fn edition_of(rows: &Rows) -> u8 {
-    if settings::has(rows[settings::GIVEN], names::EDITION) {
+    if settings::has(rows[state::GIVEN], names::EDITION) {
         return (rows[names::EDITION] % 256) as u8;
     }
     1
@@ -56,7 +58,7 @@ fn own_of(rows: &Rows) -> Own {
         maxincrease: (rows[names::MAXINCREASE] % 65536) as u16,
         lowest: Rank((rows[names::LOWEST] % 65536) as u16),
         nodetype: (rows[names::TYPE] % 256) as u8,
-        flags: own_flags(rows[settings::GIVEN]),
+        flags: own_flags(rows[state::GIVEN]),
         energy: (rows[names::ENERGY] % 256) as u8,
         edition: edition_of(rows),
         current: rows[names::CURRENT] as usize,
@@ -65,7 +67,7 @@ fn own_of(rows: &Rows) -> Own {
 
 // The neighbour whose row begins at an index.
 fn neighbour_of(rows: &Rows, at: usize) -> Neighbour
-    requires { ⌜ at ≤ 352 ⌝ }
+    requires { ⌜ at ≤ 368 ⌝ }
 {
     Neighbour {
         rank: Rank((rows[at + names::RANK] % 65536) as u16),
@@ -73,7 +75,7 @@ fn neighbour_of(rows: &Rows, at: usize) -> Neighbour
         rf: (rows[at + names::RF] % 256) as u8,
         sr: (rows[at + names::SR] % 256) as u8,
         nodetype: (rows[at + names::TYPE] % 256) as u8,
-        flags: neighbour_flags(rows[at + settings::GIVEN]),
+        flags: neighbour_flags(rows[at + state::GIVEN]),
         energy: (rows[at + names::ENERGY] % 256) as u8,
         lql: (rows[at + names::LQL] % 256) as u8,
         etx: (rows[at + names::ETX] % 65536) as u16,
@@ -86,7 +88,7 @@ fn neighbour_of(rows: &Rows, at: usize) -> Neighbour
 }
 
 fn candidate_of(rows: &Rows, at: usize) -> Candidate
-    requires { ⌜ at ≤ 352 ⌝ }
+    requires { ⌜ at ≤ 368 ⌝ }
 {
     Candidate {
         neighbour: neighbour_of(rows, at),
@@ -102,7 +104,7 @@ fn candidates_of(rows: &Rows, count: usize) -> [Candidate; 16]
     let mut list = [candidate_of(rows, 0); 16];
     let mut i = 0;
     while i < count {
-        list[i] = candidate_of(rows, i * 22 + 22);
+        list[i] = candidate_of(rows, i * state::ROW + state::ROW);
         i += 1;
     }
     list
@@ -130,11 +132,54 @@ fn run_in(s: State, rows: &Rows, lent: &[u8], sent: &mut [u8], out: &mut Buffer)
     t
 }
 
+// Puts why the candidate at the position behind `why` is the parent or is not, where that is asked.
+fn one_reason(out: &mut Buffer, held: usize, rows: &Rows, count: usize, lent: &[u8]) -> usize
+    requires { ⌜ held ≤ 65536 ⌝ }
+    requires { ⌜ count ≤ 16 ⌝ }
+    ensures { λ r. ⌜ r ≤ 65536 ⌝ }
+{
+    if !settings::has(rows[state::GIVEN], names::WHY) {
+        return held;
+    }
+    let own = own_of(rows);
+    let list = candidates_of(rows, count);
+    let position = rows[names::WHY] as usize;
+    why::line(out, held, own, list, count, lent, position)
+}
+
+// Puts the same of each candidate, where `reasons` asks.
+fn all_reasons(out: &mut Buffer, held: usize, rows: &Rows, count: usize, lent: &[u8]) -> usize
+    requires { ⌜ held ≤ 65536 ⌝ }
+    requires { ⌜ count ≤ 16 ⌝ }
+    ensures { λ r. ⌜ r ≤ 65536 ⌝ }
+{
+    if !settings::has(rows[state::GIVEN], names::REASONS) {
+        return held;
+    }
+    let own = own_of(rows);
+    let list = candidates_of(rows, count);
+    why::lines(out, held, own, list, count, lent)
+}
+
+// Writes the reasons that are asked for.
+fn reasons(s: State, rows: &Rows, lent: &[u8], out: &mut Buffer) -> State
+    requires { ⌜ Sound s ⌝ }
+    requires { ⌜ s .used ≤ length (now lent) ⌝ }
+    ensures { λ r. ⌜ Sound r ⌝ }
+{
+    let used = s.used;
+    let at = one_reason(out, s.held, rows, s.count, &lent[..used]);
+    let mut t = s;
+    t.held = all_reasons(out, at, rows, s.count, &lent[..used]);
+    t
+}
+
 // Calls, and writes the answer.
 pub(crate) fn run(s: State, rows: &Rows, lent: &Buffer, out: &mut Buffer) -> State
     requires { ⌜ Sound s ⌝ }
     ensures { λ r. ⌜ Sound r ⌝ }
 {
     let mut sent = io::buffer();
-    run_in(s, rows, lent, &mut sent, out)
+    let t = run_in(s, rows, lent, &mut sent, out);
+    reasons(t, rows, lent, out)
 }

@@ -9,13 +9,16 @@ use crate::state::State;
 use libc::STDIN_FILENO;
 
 mod answer;
+mod constraints;
 mod lines;
 mod names;
 mod report;
 mod say;
 mod sections;
+mod sentences;
 mod settings;
 mod state;
+mod why;
 
 // What is known where the next bytes are read: the state, how many bytes at the front of the buffer are not looked at yet, and
 // whether the input is at its end.
@@ -103,7 +106,7 @@ fn main() {
     let mut input = io::large_buffer();
     let mut lent = io::large_buffer();
     let mut out = io::large_buffer();
-    let mut rows = [0u64; 374];
+    let mut rows = [0u64; state::ROW * 17];
     let mut s = state::first();
     let mut kept = 0;
     // a bound for the loop, which no input reaches

@@ -1,7 +1,7 @@
 // The words of the input.
 ghost use Prim.Native.Nat.{_<_, _≤_};
 
-// A word is told by its place in the table of names. The first 21 have a number behind them; container and lent have bytes.
+// A word is told by its place in the table of names. The first 22 have a number behind them; container and lent have bytes.
 pub const MINHOP: usize = 0;
 
 pub const MAXINCREASE: usize = 1;
@@ -44,25 +44,32 @@ pub const START: usize = 19;
 
 pub const SIZE: usize = 20;
 
-pub const CONTAINER: usize = 21;
+pub const WHY: usize = 21;
 
-pub const LENT: usize = 22;
+pub const CONTAINER: usize = 22;
 
-pub const AGGREGATOR: usize = 23;
+pub const LENT: usize = 23;
 
-pub const OVERLOADED: usize = 24;
+pub const AGGREGATOR: usize = 24;
 
-pub const GROUNDED: usize = 25;
+pub const OVERLOADED: usize = 25;
 
-pub const CANDIDATE: usize = 26;
+pub const GROUNDED: usize = 26;
 
-pub const CALL: usize = 27;
+pub const REASONS: usize = 27;
+
+pub const CANDIDATE: usize = 28;
+
+pub const CALL: usize = 29;
 
 // Any other word.
-pub const NONE: usize = 28;
+pub const NONE: usize = 30;
 
-// Each name in 12 bytes, so that a space stands behind the longest.
-const NAMES: [u8; 336] = *b"\
+// The bytes of a name in the table, so that a space stands behind the longest.
+pub const ROOM_OF_NAME: usize = 12;
+
+// The names, each with spaces behind it.
+const NAMES: [u8; NONE * ROOM_OF_NAME] = *b"\
     minhop      \
     maxincrease \
     rank        \
@@ -84,21 +91,23 @@ const NAMES: [u8; 336] = *b"\
     edition     \
     start       \
     size        \
+    why         \
     container   \
     lent        \
     aggregator  \
     overloaded  \
     grounded    \
+    reasons     \
     candidate   \
     call        \
     ";
 
 // A byte of a name.
 pub(crate) fn letter(k: usize, i: usize) -> u8
-    requires { ⌜ k < 28 ⌝ }
+    requires { ⌜ k < 30 ⌝ }
     requires { ⌜ i < 12 ⌝ }
 {
-    NAMES[k * 12 + i]
+    NAMES[k * ROOM_OF_NAME + i]
 }
 
 // A byte of a word as a name has it: spaces stand behind it.
@@ -111,10 +120,10 @@ fn padded(word: &[u8], i: usize) -> u8 {
 
 // Whether a word is a name. No word has a space in it, so one of 12 bytes or more is none.
 pub(crate) fn is(word: &[u8], k: usize) -> bool
-    requires { ⌜ k < 28 ⌝ }
+    requires { ⌜ k < 30 ⌝ }
 {
     let mut i = 0;
-    while i < 12 {
+    while i < ROOM_OF_NAME {
         if padded(word, i) != letter(k, i) {
             return false;
         }
@@ -125,10 +134,10 @@ pub(crate) fn is(word: &[u8], k: usize) -> bool
 
 // Which name a word is.
 pub fn look_up(word: &[u8]) -> usize
-    ensures { λ r. ⌜ r ≤ 28 ⌝ }
+    ensures { λ r. ⌜ r ≤ 30 ⌝ }
 {
     let mut k = 0;
-    while k < 28 {
+    while k < NONE {
         if is(word, k) {
             return k;
         }

@@ -6,21 +6,12 @@ use model::Answer;
 
 const HEX: [u8; 16] = *b"0123456789ABCDEF";
 
-// Puts a word and a number, with no line end.
-fn pair(out: &mut Buffer, held: usize, word: &[u8], n: u64) -> usize
-    requires { ⌜ held ≤ 65536 ⌝ }
-    ensures { λ r. ⌜ r ≤ 65536 ⌝ }
-{
-    let a = say::text(out, held, word);
-    say::number(out, a, n)
-}
-
 // Puts a line of a word and a number.
 fn line(out: &mut Buffer, held: usize, word: &[u8], n: u64) -> usize
     requires { ⌜ held ≤ 65536 ⌝ }
     ensures { λ r. ⌜ r ≤ 65536 ⌝ }
 {
-    let a = pair(out, held, word, n);
+    let a = say::pair(out, held, word, n);
     say::byte(out, a, b'\n')
 }
 
@@ -29,11 +20,8 @@ fn meaning(out: &mut Buffer, held: usize, number: u8) -> usize
     requires { ⌜ held ≤ 65536 ⌝ }
     ensures { λ r. ⌜ r ≤ 65536 ⌝ }
 {
-    let mut words = [0u8; meaning::MEANING_ROOM];
-    let n = meaning::put_meaning(number, &mut words);
-    let a = say::text(out, held, b": ");
-    let b = say::text(out, a, &words[..n]);
-    say::byte(out, b, b'\n')
+    let a = say::meaning(out, held, number);
+    say::byte(out, a, b'\n')
 }
 
 // Puts the line of a verdict.
@@ -41,12 +29,12 @@ fn verdict(out: &mut Buffer, held: usize, position: usize, number: u8, place: u1
     requires { ⌜ held ≤ 65536 ⌝ }
     ensures { λ r. ⌜ r ≤ 65536 ⌝ }
 {
-    let a = pair(out, held, b"candidate ", position as u64);
-    let b = pair(out, a, b" verdict ", number as u64);
+    let a = say::pair(out, held, b"candidate ", position as u64);
+    let b = say::pair(out, a, b" verdict ", number as u64);
     if place == 65535 {
         return meaning(out, b, number);
     }
-    let c = pair(out, b, b" object ", place as u64);
+    let c = say::pair(out, b, b" object ", place as u64);
     meaning(out, c, number)
 }
 
@@ -84,7 +72,7 @@ fn leaf(out: &mut Buffer, held: usize, number: u8) -> usize
     requires { ⌜ held ≤ 65536 ⌝ }
     ensures { λ r. ⌜ r ≤ 65536 ⌝ }
 {
-    let a = pair(out, held, b"leaf ", number as u64);
+    let a = say::pair(out, held, b"leaf ", number as u64);
     if number == 0 {
         return say::text(out, a, b": no leaf answer\n");
     }
@@ -150,7 +138,7 @@ pub(crate) fn call(
 {
     let a = line(out, held, b"call ", calls);
     if answer.refusal != 0 {
-        let b = pair(out, a, b"refused ", answer.refusal as u64);
+        let b = say::pair(out, a, b"refused ", answer.refusal as u64);
         return meaning(out, b, answer.refusal);
     }
     let b = verdicts(out, a, answer, count);

@@ -70,6 +70,51 @@ pub(crate) fn number(out: &mut Buffer, held: usize, n: u64) -> usize
     text(out, held, &digits[..k])
 }
 
+// Puts a text and a number.
+pub(crate) fn pair(out: &mut Buffer, held: usize, words: &[u8], n: u64) -> usize
+    requires { ⌜ held ≤ 65536 ⌝ }
+    ensures { λ r. ⌜ r ≤ 65536 ⌝ }
+{
+    let a = text(out, held, words);
+    number(out, a, n)
+}
+
+// Puts a number between two texts.
+pub(crate) fn between(out: &mut Buffer, held: usize, before: &[u8], n: u64, behind: &[u8]) -> usize
+    requires { ⌜ held ≤ 65536 ⌝ }
+    ensures { λ r. ⌜ r ≤ 65536 ⌝ }
+{
+    let a = pair(out, held, before, n);
+    text(out, a, behind)
+}
+
+// Puts a text and a number twice.
+pub(crate) fn pairs(
+    out: &mut Buffer,
+    held: usize,
+    first: &[u8],
+    n: u64,
+    second: &[u8],
+    m: u64,
+) -> usize
+    requires { ⌜ held ≤ 65536 ⌝ }
+    ensures { λ r. ⌜ r ≤ 65536 ⌝ }
+{
+    let a = pair(out, held, first, n);
+    pair(out, a, second, m)
+}
+
+// Puts what a number means, behind `: `.
+pub(crate) fn meaning(out: &mut Buffer, held: usize, number: u8) -> usize
+    requires { ⌜ held ≤ 65536 ⌝ }
+    ensures { λ r. ⌜ r ≤ 65536 ⌝ }
+{
+    let mut words = [0u8; meaning::MEANING_ROOM];
+    let n = meaning::put_meaning(number, &mut words);
+    let a = text(out, held, b": ");
+    text(out, a, &words[..n])
+}
+
 // Puts the name of a word, with a space behind it; nothing where it has none.
 fn name(out: &mut Buffer, held: usize, k: usize) -> usize
     requires { ⌜ held ≤ 65536 ⌝ }
@@ -80,7 +125,7 @@ fn name(out: &mut Buffer, held: usize, k: usize) -> usize
         return at;
     }
     let mut i = 0;
-    while i < 12 {
+    while i < names::ROOM_OF_NAME {
         let b = names::letter(k, i);
         at = byte(out, at, b);
         if b == b' ' {

@@ -55,8 +55,8 @@ fn clear(rows: &mut Rows, row: usize)
     requires { ⌜ row ≤ 16 ⌝ }
 {
     let mut k = 0;
-    while k < 22 {
-        rows[row * 22 + k] = 0;
+    while k < state::ROW {
+        rows[row * state::ROW + k] = 0;
         k += 1;
     }
 }
@@ -70,7 +70,7 @@ pub(crate) fn end(s: State, rows: &mut Rows, out: &mut Buffer) -> State
     if k != names::NONE {
         return state::fail_at(s, out, s.begun, Fault::Missing, k);
     }
-    rows[s.count * 22 + settings::GIVEN] = s.given;
+    rows[s.count * state::ROW + state::GIVEN] = s.given;
     s
 }
 

@@ -13,8 +13,8 @@ use words::Decimal;
 use words::HexByte;
 
 // The limits of minhop, maxincrease, rank, sp, rf, sr, type, lql, lowest, energy, current, room, etx, latency, throughput, colour,
-// order, preference, edition, start and size.
-const LIMITS: [u64; 21] = [
+// order, preference, edition, start, size and why.
+const LIMITS: [u64; names::CONTAINER] = [
     65535,
     65535,
     65535,
@@ -36,6 +36,7 @@ const LIMITS: [u64; 21] = [
     255,
     state::MOST,
     state::MOST,
+    state::MOST,
 ];
 
 // The words that can stand behind `call`, and those that can stand behind `candidate`, as bits.
@@ -47,9 +48,11 @@ const OF_CALL: u64 = (1 << names::MINHOP)
     | (1 << names::CURRENT)
     | (1 << names::ROOM)
     | (1 << names::EDITION)
+    | (1 << names::WHY)
     | (1 << names::LENT)
     | (1 << names::AGGREGATOR)
-    | (1 << names::OVERLOADED);
+    | (1 << names::OVERLOADED)
+    | (1 << names::REASONS);
 
 const OF_CANDIDATE: u64 = (1 << names::RANK)
     | (1 << names::SP)
@@ -70,9 +73,6 @@ const OF_CANDIDATE: u64 = (1 << names::RANK)
     | (1 << names::AGGREGATOR)
     | (1 << names::OVERLOADED)
     | (1 << names::GROUNDED);
-
-// The column of a row for the words that were given.
-pub const GIVEN: usize = 21;
 
 // A place on a line, and what is known there.
 pub struct Next {
@@ -101,7 +101,7 @@ pub(crate) fn stop(end: usize, s: State, out: &mut Buffer, what: Fault, k: usize
 
 // Whether a word is among some, by their bits.
 pub(crate) fn has(words: u64, k: usize) -> bool
-    requires { ⌜ k < 26 ⌝ }
+    requires { ⌜ k < 28 ⌝ }
 {
     (words >> k) % 2 == 1
 }
@@ -109,7 +109,7 @@ pub(crate) fn has(words: u64, k: usize) -> bool
 // With a word that is given now.
 fn with(s: State, k: usize) -> State
     requires { ⌜ Sound s ⌝ }
-    requires { ⌜ k < 26 ⌝ }
+    requires { ⌜ k < 28 ⌝ }
     ensures { λ r. ⌜ Sound r ⌝ }
 {
     let mut t = s;
@@ -127,7 +127,7 @@ fn both_ways(given: u64, k: usize) -> bool {
 
 // Fails where a word does not belong to its place, or was given already.
 fn admit(s: State, out: &mut Buffer, k: usize) -> State
-    requires { ⌜ k < 26 ⌝ }
+    requires { ⌜ k < 28 ⌝ }
     requires { ⌜ Sound s ⌝ }
     ensures { λ r. ⌜ Sound r ⌝ }
 {
@@ -149,7 +149,7 @@ fn admit(s: State, out: &mut Buffer, k: usize) -> State
 // The number behind a word, which ends at an index.
 fn number(line: &[u8], end: usize, k: usize, s: State, rows: &mut Rows, out: &mut Buffer) -> Next
     requires { ⌜ end ≤ length (now line) ⌝ }
-    requires { ⌜ k < 21 ⌝ }
+    requires { ⌜ k < 22 ⌝ }
     requires { ⌜ Sound s ⌝ }
     ensures { λ r. ⌜ (end ≤ r .at) × ((r .at ≤ length (now (line .entry))) × Sound (r .state)) ⌝ }
 {
@@ -160,7 +160,7 @@ fn number(line: &[u8], end: usize, k: usize, s: State, rows: &mut Rows, out: &mu
             if LIMITS[k] < n {
                 return stop(end, s, out, Fault::TooLarge(LIMITS[k]), k);
             }
-            rows[s.count * 22 + k] = n;
+            rows[s.count * state::ROW + k] = n;
             let given = with(s, k);
             Next {
                 at: to,
@@ -215,7 +215,7 @@ fn bytes(
     out: &mut Buffer,
 ) -> Next
     requires { ⌜ end ≤ length (now line) ⌝ }
-    requires { ⌜ k < 26 ⌝ }
+    requires { ⌜ k < 28 ⌝ }
     requires { ⌜ Sound s ⌝ }
     ensures { λ r. ⌜ (end ≤ r .at) × ((r .at ≤ length (now (line .entry))) × Sound (r .state)) ⌝ }
 {
@@ -223,7 +223,7 @@ fn bytes(
         HexRun::Lent(n) => {
             let mut t = s;
             if k == names::CONTAINER {
-                let row = s.count * 22;
+                let row = s.count * state::ROW;
                 rows[row + names::START] = s.used as u64;
                 rows[row + names::SIZE] = (n - s.used) as u64;
                 t = with(s, k);
@@ -250,7 +250,7 @@ pub(crate) fn take(
     out: &mut Buffer,
 ) -> Next
     requires { ⌜ end ≤ length (now line) ⌝ }
-    requires { ⌜ k < 26 ⌝ }
+    requires { ⌜ k < 28 ⌝ }
     requires { ⌜ Sound s ⌝ }
     ensures { λ r. ⌜ (end ≤ r .at) × ((r .at ≤ length (now (line .entry))) × Sound (r .state)) ⌝ }
 {

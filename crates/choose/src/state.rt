@@ -1,5 +1,6 @@
 // What is known of the input so far.
 ghost use Rattle.choose.specs.Sound.{Sound};
+use crate::names;
 use crate::say;
 use crate::say::Buffer;
 use crate::say::Fault;
@@ -16,9 +17,13 @@ pub const SKIPPED: u8 = 3;
 // The largest number.
 pub const MOST: u64 = 18446744073709551615;
 
-// The row of `call`, and one of each candidate: the number behind each of the first 21 words, then the bits of the words that were
-// given.
-pub type Rows = [u64; 374];
+// A row has the number behind each of the words that have one, then the bits of the words that were given.
+pub const GIVEN: usize = names::CONTAINER;
+
+pub const ROW: usize = GIVEN + 1;
+
+// The row of `call`, and one of each candidate.
+pub type Rows = [u64; ROW * 17];
 
 // The place in the input, and what the call has so far.
 pub struct State {

@@ -4,10 +4,10 @@ use Rattle.choose.proofs.sections.clear.Statement.{statement}
 use Rattle.choose.proofs.sections.clear.Tie as tie
 
 abbrev Inv-loop : tie.InvT-loop
-Inv-loop rows₀ row k₀ rows k = k ≤ 22
+Inv-loop rows₀ row k₀ rows k = k ≤ 23
 
 abbrev μ-loop : tie.MeasureT-loop
-μ-loop rows₀ row k₀ rows k = 22 - k
+μ-loop rows₀ row k₀ rows k = 23 - k
 
 loop-holds : tie.Need-loop-holds Inv-loop μ-loop
 loop-holds c = search needs

@@ -4,8 +4,8 @@ use lib.ListN.{length}
 use lib.Seq.{length-take-le}
 use borrow.Author.Needs.{needs}
 use Rattle.meaning.proofs.WordLaws.{told-inside}
-use Rattle.choose.proofs.report.meaning.Statement.{statement}
-use Rattle.choose.proofs.report.meaning.Tie as tie
+use Rattle.choose.proofs.say.meaning.Statement.{statement}
+use Rattle.choose.proofs.say.meaning.Tie as tie
 
 slice-aggregate-put-meaning : tie.Need-slice-aggregate-put-meaning
 slice-aggregate-put-meaning c = search needs
@@ -34,9 +34,6 @@ slice-aggregate-text-2 c =
 text-requires-2 : tie.Need-text-requires-2
 text-requires-2 c κs = search needs
 
-byte-requires : tie.Need-byte-requires
-byte-requires c κs = search needs
-
 returns : tie.Need-returns
 returns c = search needs
 
@@ -51,5 +48,4 @@ meaning-spec =
     array-share-prefix-words
     slice-aggregate-text-2
     text-requires-2
-    byte-requires
     returns)

@@ -1,0 +1,98 @@
+// The sentences for bars 11 to 14: what was asked of a number or of a container, and what was found.
+ghost use Prim.Native.Nat.{_≤_};
+use crate::say;
+use crate::say::Buffer;
+use reason::Finding;
+
+// Puts the name of a number by the way in which a candidate falls short, 1 to 8.
+fn name(out: &mut Buffer, held: usize, way: u8) -> usize
+    requires { ⌜ held ≤ 65536 ⌝ }
+    ensures { λ r. ⌜ r ≤ 65536 ⌝ }
+{
+    match way {
+        1 => say::text(out, held, b"Sp"),
+        2 => say::text(out, held, b"Rf"),
+        3 => say::text(out, held, b"Sr"),
+        4 => say::text(out, held, b"LQL"),
+        5 => say::text(out, held, b"type"),
+        6 => say::text(out, held, b"colour"),
+        7 => say::text(out, held, b"interface order"),
+        _ => say::text(out, held, b"root preference"),
+    }
+}
+
+// Bar 11, ways 1 to 8: a number that is out of its range.
+pub(crate) fn range(out: &mut Buffer, held: usize, f: Finding) -> usize
+    requires { ⌜ held ≤ 65536 ⌝ }
+    ensures { λ r. ⌜ r ≤ 65536 ⌝ }
+{
+    let a = name(out, held, f.way);
+    let b = say::pair(out, a, b" is ", f.found);
+    say::pairs(out, b, b", and can be ", f.which, b" to ", f.asked)
+}
+
+// Bar 14, ways 13 and 14: an object of which so many bytes are asked, by the words for them, and fewer are there.
+fn object(out: &mut Buffer, held: usize, words: &[u8], f: Finding) -> usize
+    requires { ⌜ held ≤ 65536 ⌝ }
+    ensures { λ r. ⌜ r ≤ 65536 ⌝ }
+{
+    let a = say::pairs(out, held, b"object ", f.which, words, f.asked);
+    say::between(out, a, b" bytes, ", f.found, b" are there")
+}
+
+// Bar 12, way 9: a container that is not inside the lent bytes.
+fn outside(out: &mut Buffer, held: usize, f: Finding) -> usize
+    requires { ⌜ held ≤ 65536 ⌝ }
+    ensures { λ r. ⌜ r ≤ 65536 ⌝ }
+{
+    let a = say::pairs(out, held, b"it starts at ", f.which, b" and has ", f.asked);
+    say::between(out, a, b" bytes, ", f.found, b" are lent")
+}
+
+// Bar 13, way 12: a container with more or less data than it says.
+fn data(out: &mut Buffer, held: usize, f: Finding) -> usize
+    requires { ⌜ held ≤ 65536 ⌝ }
+    ensures { λ r. ⌜ r ≤ 65536 ⌝ }
+{
+    let a = say::pairs(
+        out,
+        held,
+        b"it says ",
+        f.asked,
+        b" bytes of data, ",
+        f.found,
+    );
+    say::text(out, a, b" are there")
+}
+
+// Bar 13, way 10: a container that is too short.
+fn short(out: &mut Buffer, held: usize, f: Finding) -> usize
+    requires { ⌜ held ≤ 65536 ⌝ }
+    ensures { λ r. ⌜ r ≤ 65536 ⌝ }
+{
+    let a = say::pairs(out, held, b"its length is ", f.found, b", and ", f.asked);
+    say::text(out, a, b" is the least")
+}
+
+// Bars 12 to 14, ways 9 to 14: what is wrong with a container.
+pub(crate) fn container(out: &mut Buffer, held: usize, f: Finding) -> usize
+    requires { ⌜ held ≤ 65536 ⌝ }
+    ensures { λ r. ⌜ r ≤ 65536 ⌝ }
+{
+    let way = f.way;
+    match way {
+        9 => outside(out, held, f),
+        10 => short(out, held, f),
+        11 => say::pairs(
+            out,
+            held,
+            b"it starts with ",
+            f.found,
+            b", and is to start with ",
+            f.asked,
+        ),
+        12 => data(out, held, f),
+        13 => object(out, held, b" has a header of ", f),
+        _ => object(out, held, b" says ", f),
+    }
+}
