@@ -1,15 +1,16 @@
 /*
  * Gardhnosk: routing metrics for RPL meshes. A node hands over what it knows of up to 16 neighbours, each with the DAG Metric
  * Container (RFC 6551) received from it, and receives a verdict on each, its preferred parent, its rank (RFC 6552) and the
- * container to send on. For C99 and C++11 on x86-64; link libgardhnosk.a.
+ * container to send on. For C99 and C++11 on x86-64; link libgardhnosk.a, and for gardhnosk_why and gardhnosk_examine, which tell why,
+ * libgardhnosk_reasons.a.
  *
  * Every call answers, whatever the numbers and the bytes. Nothing is kept or allocated: calls from several threads need no lock.
  * While a call runs, nobody else may write to the bytes that it reads or to its output, no thread, no interrupt and no DMA: it
  * reads a container several times, and where that changes meanwhile it can write past an array on its stack. So copy a buffer
  * that is still being received into, and lend the copy.
  * A pointer is valid for the size beside it; where that is 0 nothing is read or written, and it may be null. An output overlaps
- * no input. Stack, with what a call is passed, as measured: under 3 KB for gardhnosk_choose, 2 KB for gardhnosk_meaning and 1 KB
- * for gardhnosk_list, but for what a dynamic linker takes at a first call of memcpy.
+ * no input. Stack, with what a call is passed, as measured: under 3 KB for gardhnosk_choose and gardhnosk_why, 2 KB for gardhnosk_meaning
+ * and gardhnosk_examine, and 1 KB for gardhnosk_list, but for what a dynamic linker takes at a first call of memcpy.
  */
 #ifndef GARDHNOSK_H
 #define GARDHNOSK_H

@@ -6,21 +6,11 @@ ghost use Rattle.choice.specs.Given.{given};
 ghost use Rattle.choice.specs.Demand3.{Returned};
 ghost use Rattle.listing.specs.Listed.{listed, listedIn};
 ghost use Rattle.meaning.specs.Meaning.{told, toldIn};
-ghost use Rattle.reason.specs.Why.{reasonOf, why};
-ghost use Rattle.reason.specs.Finding.{findingOf};
 ghost use Rattle.gardhnosk.specs.Texts.{sizeOf};
 use listing::Listed;
 use model::Answer;
-use model::Candidate;
+use model::Candidates;
 use model::Own;
-use reason::Finding;
-use reason::Reason;
-
-// The candidates of a call; those from the call's count on are ignored.
-#[repr(C)]
-pub struct Candidates {
-    pub at: [Candidate; 16],
-}
 
 // Chooses a preferred parent, and writes the container for the next hop.
 #[no_mangle]
@@ -37,29 +27,6 @@ pub extern "C" fn gardhnosk_choose(
 {
     let at = candidates.at;
     choice::call(own, at, count, lent, out)
-}
-
-// Tells why the candidate at a position is the parent, or is not.
-#[no_mangle]
-pub extern "C" fn gardhnosk_why(
-    own: Own,
-    candidates: Candidates,
-    count: usize,
-    lent: &[u8],
-    position: usize,
-) -> Reason
-    ensures { λ r. ⌜ r ≡ reasonOf (why own (given (candidates .at) count) (now (lent .entry)) position) ⌝ }
-{
-    let all = candidates.at;
-    reason::explain(own, all, count, lent, position)
-}
-
-// Tells what was asked of a candidate that is barred, and what was found.
-#[no_mangle]
-pub extern "C" fn gardhnosk_examine(own: Own, candidate: Candidate, lent: &[u8]) -> Finding
-    ensures { λ r. ⌜ r ≡ findingOf own candidate (now (lent .entry)) ⌝ }
-{
-    reason::examine(own, candidate, lent)
 }
 
 // The length of a text as C receives it: 2^64 - 1 where the output is too short for any text.

@@ -77,6 +77,12 @@ pub struct Candidate {
     pub size: usize,
 }
 
+// The candidates of a call as C passes them; those from the call's count on are ignored.
+#[repr(C)]
+pub struct Candidates {
+    pub at: [Candidate; 16],
+}
+
 // What a container tells the tests of its own constraints: the count of its HP metric; the latency and the ETX that it received, where a
 // metric adds them up along the path, else 0.
 pub struct Summary {

@@ -95,7 +95,7 @@ fn candidate_of(row: [u64; 16]) -> Candidate {
 }
 
 // How many candidates stand on a line.
-fn shown(count: usize) -> usize
+pub(crate) fn shown(count: usize) -> usize
     ensures { λ r. ⌜ r ≤ 16 ⌝ }
 {
     if count < 16 {

@@ -1,11 +1,13 @@
-// Runs `choice::call` on the cases of its input, one to a line, and writes a line for each.
+// Runs `choice::call` and `reason::explain` on the cases of its input, one to a line, and writes a line for each.
 // A case: NAME minhop maxincrease lowest nodetype flags energy edition current room count, then for each candidate (16 at most stand on
 // the line, whatever the count) rank sp rf sr nodetype flags energy lql etx latency throughput colour order preference start size, then
 // the bytes of the lent run. One space is between two words; numbers are decimal, bytes two hexadecimal digits. The numbers are the fields of `Own`
 // and `Candidate`; room is the length of the lent output, 300 at most, whose bytes are all 0xEE before the call.
 // The answer: NAME refusal parent rank bits count leaf size, `verdicts` and those of the candidates on the line, each with `@` and
 // its place if it has one, `beyond` if any other verdict or place is set, `output` and the first `size` bytes of the output, then
-// `kept` if all bytes behind them are still 0xEE, else `changed`. No parent is 255, no rank 65535, as in `Answer`.
+// `kept` if all bytes behind them are still 0xEE, else `changed`. No parent is 255, no rank 65535, as in `Answer`. Then `why` and the
+// reason at each candidate on the line and at the position equal to their number: `chosen`; V or V@I, barred by V, at object I;
+// B:K:V:A, beaten by candidate B on criterion K, with value V against A; `refused-N`, refused by N.
 // A line of another form has the answer NAME `unreadable`, or `unreadable` if it has no name. A line has 65,536 bytes at most, its
 // end among them; of a longer one each 65,536 bytes are taken for a line.
 ghost use Prim.Native.Nat.{_≤_};
@@ -25,7 +27,20 @@ struct Left {
     ended: bool,
 }
 
-// Calls on a case, with an output of its room at the start of out, and writes the answer.
+// Writes the reason at each candidate on the line of a case, and at the position behind them.
+fn explain_case(given: case::Case, lent: &[u8]) {
+    let candidates = given.candidates;
+    let n = case::shown(given.count);
+    say::text(b" why");
+    let mut i: usize = 0;
+    while i <= n {
+        say::reason(reason::explain(given.own, candidates, given.count, lent, i));
+        i += 1;
+    }
+    say::text(b"\n");
+}
+
+// Calls on a case, with an output of its room at the start of out, and writes the answer and the reasons.
 fn run_case(given: case::Case, lent: &[u8], out: &mut [u8])
     requires { ⌜ given .room ≤ length (now out) ⌝ }
 {
@@ -33,6 +48,7 @@ fn run_case(given: case::Case, lent: &[u8], out: &mut [u8])
     let candidates = given.candidates;
     let answer = choice::call(given.own, candidates, given.count, lent, &mut out[..room]);
     say::answer(answer, given.count, out);
+    explain_case(given, lent);
 }
 
 // One line: its name, then the answer.

@@ -1,15 +1,28 @@
-// Writing the answer of a case.
+// Writing the answer of a case, and the reasons.
 use libc::STDOUT_FILENO;
 use model::Answer;
+use reason::Reason;
+
+// The kinds of a reason; the one left is that of a candidate that is beaten.
+const REFUSED: u8 = 0;
+
+const CHOSEN: u8 = 1;
+
+const BARRED: u8 = 2;
 
 pub fn text(bytes: &[u8]) {
     io::write_all(STDOUT_FILENO, bytes);
 }
 
+// A number behind a mark.
+fn behind(mark: &[u8], n: u64) {
+    text(mark);
+    io::print_decimal(STDOUT_FILENO, n);
+}
+
 // A number behind a space.
 fn number(n: u64) {
-    text(b" ");
-    io::print_decimal(STDOUT_FILENO, n);
+    behind(b" ", n);
 }
 
 // A byte behind a space.
@@ -30,8 +43,7 @@ pub fn unreadable(size: usize) {
 fn verdict(v: u8, place: u16) {
     number(v as u64);
     if place != 65535 {
-        text(b"@");
-        io::print_decimal(STDOUT_FILENO, place as u64);
+        behind(b"@", place as u64);
     }
 }
 
@@ -71,9 +83,9 @@ fn output(out: &[u8], size: u16) {
         i += 1;
     }
     if kept {
-        text(b" kept\n");
+        text(b" kept");
     } else {
-        text(b" changed\n");
+        text(b" changed");
     }
 }
 
@@ -90,4 +102,23 @@ pub fn answer(given: Answer, count: usize, out: &[u8]) {
     verdicts(given, count);
     text(b" output");
     output(out, given.size);
+}
+
+// Who beats a candidate, on what criterion, and what the two have there.
+fn beaten(why: Reason) {
+    number(why.parent as u64);
+    behind(b":", why.criterion as u64);
+    behind(b":", why.value as u64);
+    behind(b":", why.against as u64);
+}
+
+// A reason, as one word.
+pub fn reason(why: Reason) {
+    let kind = why.kind;
+    match kind {
+        REFUSED => behind(b" refused-", why.refusal as u64),
+        CHOSEN => text(b" chosen"),
+        BARRED => verdict(why.number, why.place),
+        _ => beaten(why),
+    }
 }

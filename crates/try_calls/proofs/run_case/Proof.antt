@@ -16,6 +16,9 @@ call-requires c κs = search needs
 answer-requires : tie.Need-answer-requires
 answer-requires c κs = search needs
 
+explain-case-requires : tie.Need-explain-case-requires
+explain-case-requires c κs = search needs
+
 same-length : tie.Need-same-length
 same-length c = search needs
 
@@ -30,5 +33,6 @@ run-case-spec =
     slice-aggregate-call
     call-requires
     answer-requires
+    explain-case-requires
     same-length
     returns)
