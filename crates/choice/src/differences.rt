@@ -7,17 +7,17 @@ use model::Offer;
 use model::Own;
 
 // The criteria by number.
-const ORDER: u8 = 1;
+pub const ORDER: u8 = 1;
 
-const GROUNDED: u8 = 2;
+pub const GROUNDED: u8 = 2;
 
-const PREFERENCE: u8 = 3;
+pub const PREFERENCE: u8 = 3;
 
-const RANK: u8 = 4;
+pub const RANK: u8 = 4;
 
-const CURRENT: u8 = 5;
+pub const CURRENT: u8 = 5;
 
-const POSITION: u8 = 6;
+pub const POSITION: u8 = 6;
 
 // The number of a criterion, 0 for none, and what one candidate and another have there, as their fields say it: of yes and no, yes is 1.
 pub struct Difference {

@@ -14,7 +14,13 @@ mod differences;
 mod preference;
 mod refusals;
 
+pub use differences::CURRENT;
 pub use differences::Difference;
+pub use differences::GROUNDED;
+pub use differences::ORDER;
+pub use differences::POSITION;
+pub use differences::PREFERENCE;
+pub use differences::RANK;
 pub use differences::first_difference;
 pub use preference::better;
 pub use refusals::refusal_of;

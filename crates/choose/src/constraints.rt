@@ -4,15 +4,22 @@ use crate::say;
 use crate::say::Buffer;
 use reason::Finding;
 
+// The types of nodes that RFC 6551 names.
+const MAINS: u64 = 0;
+
+const BATTERY: u64 = 1;
+
+const SCAVENGER: u64 = 2;
+
 // Puts nodes of a type.
 fn nodes(out: &mut Buffer, held: usize, nodetype: u64) -> usize
     requires { ⌜ held ≤ 65536 ⌝ }
     ensures { λ r. ⌜ r ≤ 65536 ⌝ }
 {
     match nodetype {
-        0 => say::text(out, held, b"mains nodes (type 0)"),
-        1 => say::text(out, held, b"battery nodes (type 1)"),
-        2 => say::text(out, held, b"scavenger nodes (type 2)"),
+        MAINS => say::text(out, held, b"mains nodes (type 0)"),
+        BATTERY => say::text(out, held, b"battery nodes (type 1)"),
+        SCAVENGER => say::text(out, held, b"scavenger nodes (type 2)"),
         _ => say::pair(out, held, b"nodes of type ", nodetype),
     }
 }
@@ -26,7 +33,13 @@ fn energy(out: &mut Buffer, held: usize, f: Finding, compares: &[u8]) -> usize
     let a = nodes(out, held, f.which);
     let b = say::between(out, a, compares, f.asked, b" % energy; ");
     match way {
-        18 | 21 => say::between(out, b, b"this one has ", f.found, b" %"),
+        reason::LITTLE_ENERGY | reason::BARRED_ENERGY => say::between(
+            out,
+            b,
+            b"this one has ",
+            f.found,
+            b" %",
+        ),
         _ => say::text(out, b, b"that of this one is unknown"),
     }
 }
@@ -36,7 +49,7 @@ fn wanted(out: &mut Buffer, held: usize, f: Finding) -> usize
     requires { ⌜ held ≤ 65536 ⌝ }
     ensures { λ r. ⌜ r ≤ 65536 ⌝ }
 {
-    if f.way != 17 {
+    if f.way != reason::OTHER_TYPE {
         return energy(out, held, f, b" with more than ");
     }
     let a = nodes(out, held, f.asked);
@@ -49,7 +62,7 @@ fn unwanted(out: &mut Buffer, held: usize, f: Finding) -> usize
     ensures { λ r. ⌜ r ≤ 65536 ⌝ }
 {
     let a = say::text(out, held, b"no ");
-    if f.way != 20 {
+    if f.way != reason::BARRED_TYPE {
         return energy(out, a, f, b" with less than ");
     }
     let b = nodes(out, a, f.asked);
@@ -61,13 +74,13 @@ fn of_node(out: &mut Buffer, held: usize, f: Finding) -> usize
     requires { ⌜ held ≤ 65536 ⌝ }
     ensures { λ r. ⌜ r ≤ 65536 ⌝ }
 {
-    if f.way == 15 {
+    if f.way == reason::AGGREGATOR {
         return say::text(out, held, b"nodes that aggregate; this one does not");
     }
-    if f.way == 16 {
+    if f.way == reason::OVERLOADED {
         return say::text(out, held, b"nodes that are not overloaded; this one is");
     }
-    if f.way < 20 {
+    if f.way <= reason::UNKNOWN_ENERGY {
         return wanted(out, held, f);
     }
     unwanted(out, held, f)
@@ -80,15 +93,21 @@ fn limit(out: &mut Buffer, held: usize, f: Finding) -> usize
 {
     let way = f.way;
     match way {
-        23 | 24 => say::between(out, held, b"fewer than ", f.asked, b" hops; "),
-        25 | 26 => say::between(
+        reason::HOPS | reason::UNKNOWN_HOPS => say::between(
+            out,
+            held,
+            b"fewer than ",
+            f.asked,
+            b" hops; ",
+        ),
+        reason::THROUGHPUT | reason::UNKNOWN_THROUGHPUT => say::between(
             out,
             held,
             b"throughput of at least ",
             f.asked,
             b" bytes per second; ",
         ),
-        27 | 28 | 29 => say::between(
+        reason::LATENCY | reason::PATH_LATENCY | reason::UNKNOWN_LATENCY => say::between(
             out,
             held,
             b"latency of at most ",
@@ -106,9 +125,14 @@ fn found(out: &mut Buffer, held: usize, f: Finding) -> usize
 {
     let way = f.way;
     match way {
-        23 | 28 => say::pair(out, held, b"the path has ", f.found),
-        24 => say::text(out, held, b"those of the path are unknown"),
-        25 | 27 | 33 => say::pair(out, held, b"this link has ", f.found),
+        reason::HOPS | reason::PATH_LATENCY => say::pair(out, held, b"the path has ", f.found),
+        reason::UNKNOWN_HOPS => say::text(out, held, b"those of the path are unknown"),
+        reason::THROUGHPUT | reason::LATENCY | reason::QUALITY => say::pair(
+            out,
+            held,
+            b"this link has ",
+            f.found,
+        ),
         _ => say::text(out, held, b"that of this link is unknown"),
     }
 }
@@ -156,11 +180,11 @@ fn of_etx(out: &mut Buffer, held: usize, f: Finding) -> usize
     let a = say::text(out, held, b"ETX of at most ");
     let b = times(out, a, f.asked);
     match way {
-        30 => {
+        reason::ETX => {
             let c = say::text(out, b, b"; this link has ");
             times(out, c, f.found)
         }
-        31 => {
+        reason::PATH_ETX => {
             let c = say::text(out, b, b"; the path has ");
             times(out, c, f.found)
         }
@@ -175,8 +199,8 @@ fn of_way(out: &mut Buffer, held: usize, f: Finding) -> usize
 {
     let way = f.way;
     match way {
-        30 | 31 | 32 => of_etx(out, held, f),
-        35 => say::pairs(
+        reason::ETX | reason::PATH_ETX | reason::UNKNOWN_ETX => of_etx(out, held, f),
+        reason::LACKS_COLOUR => say::pairs(
             out,
             held,
             b"links of colour ",
@@ -184,7 +208,7 @@ fn of_way(out: &mut Buffer, held: usize, f: Finding) -> usize
             b"; this link has colour ",
             f.found,
         ),
-        36 => say::pairs(
+        reason::HAS_COLOUR => say::pairs(
             out,
             held,
             b"no links of colour ",
@@ -205,7 +229,7 @@ pub(crate) fn unmet(out: &mut Buffer, held: usize, place: u16, f: Finding) -> us
     ensures { λ r. ⌜ r ≤ 65536 ⌝ }
 {
     let a = say::between(out, held, b"object ", place as u64, b" asks for ");
-    if f.way < 23 {
+    if f.way <= reason::BARRED_UNKNOWN {
         return of_node(out, a, f);
     }
     of_way(out, a, f)

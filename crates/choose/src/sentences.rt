@@ -10,13 +10,13 @@ fn name(out: &mut Buffer, held: usize, way: u8) -> usize
     ensures { λ r. ⌜ r ≤ 65536 ⌝ }
 {
     match way {
-        1 => say::text(out, held, b"Sp"),
-        2 => say::text(out, held, b"Rf"),
-        3 => say::text(out, held, b"Sr"),
-        4 => say::text(out, held, b"LQL"),
-        5 => say::text(out, held, b"type"),
-        6 => say::text(out, held, b"colour"),
-        7 => say::text(out, held, b"interface order"),
+        reason::SP => say::text(out, held, b"Sp"),
+        reason::RF => say::text(out, held, b"Rf"),
+        reason::SR => say::text(out, held, b"Sr"),
+        reason::LQL => say::text(out, held, b"LQL"),
+        reason::NODE_TYPE => say::text(out, held, b"type"),
+        reason::COLOUR => say::text(out, held, b"colour"),
+        reason::ORDER => say::text(out, held, b"interface order"),
         _ => say::text(out, held, b"root preference"),
     }
 }
@@ -81,9 +81,9 @@ pub(crate) fn container(out: &mut Buffer, held: usize, f: Finding) -> usize
 {
     let way = f.way;
     match way {
-        9 => outside(out, held, f),
-        10 => short(out, held, f),
-        11 => say::pairs(
+        reason::OUTSIDE => outside(out, held, f),
+        reason::SHORT => short(out, held, f),
+        reason::FIRST_BYTE => say::pairs(
             out,
             held,
             b"it starts with ",
@@ -91,8 +91,8 @@ pub(crate) fn container(out: &mut Buffer, held: usize, f: Finding) -> usize
             b", and is to start with ",
             f.asked,
         ),
-        12 => data(out, held, f),
-        13 => object(out, held, b" has a header of ", f),
+        reason::DATA => data(out, held, f),
+        reason::HEADER => object(out, held, b" has a header of ", f),
         _ => object(out, held, b" says ", f),
     }
 }

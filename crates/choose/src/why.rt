@@ -9,22 +9,8 @@ use model::Own;
 use reason::Finding;
 use reason::Reason;
 
-// The kinds of a reason.
-const REFUSED: u8 = 0;
-
-const CHOSEN: u8 = 1;
-
-const BARRED: u8 = 2;
-
 // What a reason's place is where no object bars.
 const NO_PLACE: u16 = 65535;
-
-// The ways of a finding: nothing to tell, numbers out of range, then these for containers, then these for constraints.
-const NOTHING: u8 = 0;
-
-const OF_CONTAINERS: u8 = 9;
-
-const OF_CONSTRAINTS: u8 = 15;
 
 // Puts that a question is refused, and why.
 fn refused(out: &mut Buffer, held: usize, why: Reason) -> usize
@@ -58,7 +44,7 @@ fn beaten(out: &mut Buffer, held: usize, why: Reason) -> usize
     let criterion = why.criterion;
     let a = say::pair(out, held, b"beaten by candidate ", why.parent as u64);
     match criterion {
-        1 => say::pairs(
+        choice::ORDER => say::pairs(
             out,
             a,
             b" on interface order: ",
@@ -66,8 +52,8 @@ fn beaten(out: &mut Buffer, held: usize, why: Reason) -> usize
             b" against ",
             against,
         ),
-        2 => say::text(out, a, b" on grounded: no against yes"),
-        3 => say::pairs(
+        choice::GROUNDED => say::text(out, a, b" on grounded: no against yes"),
+        choice::PREFERENCE => say::pairs(
             out,
             a,
             b" on root preference: ",
@@ -75,8 +61,8 @@ fn beaten(out: &mut Buffer, held: usize, why: Reason) -> usize
             b" against ",
             against,
         ),
-        4 => say::pairs(out, a, b" on rank: ", value, b" against ", against),
-        5 => say::text(out, a, b", the current parent"),
+        choice::RANK => say::pairs(out, a, b" on rank: ", value, b" against ", against),
+        choice::CURRENT => say::text(out, a, b", the current parent"),
         _ => say::text(out, a, b" on position"),
     }
 }
@@ -88,9 +74,9 @@ fn told(out: &mut Buffer, held: usize, why: Reason) -> usize
 {
     let kind = why.kind;
     match kind {
-        REFUSED => refused(out, held, why),
-        CHOSEN => say::text(out, held, b"chosen"),
-        BARRED => barred(out, held, why),
+        reason::REFUSED => refused(out, held, why),
+        reason::CHOSEN => say::text(out, held, b"chosen"),
+        reason::BARRED => barred(out, held, why),
         _ => beaten(out, held, why),
     }
 }
@@ -100,14 +86,14 @@ fn finding(out: &mut Buffer, held: usize, place: u16, f: Finding) -> usize
     requires { ⌜ held ≤ 65536 ⌝ }
     ensures { λ r. ⌜ r ≤ 65536 ⌝ }
 {
-    if f.way == NOTHING {
+    if f.way == reason::NOTHING {
         return held;
     }
     let a = say::text(out, held, b": ");
-    if f.way < OF_CONTAINERS {
+    if f.way <= reason::PREFERENCE {
         return sentences::range(out, a, f);
     }
-    if f.way < OF_CONSTRAINTS {
+    if f.way <= reason::BODY {
         return sentences::container(out, a, f);
     }
     constraints::unmet(out, a, place, f)
@@ -126,7 +112,7 @@ fn answer(
     ensures { λ r. ⌜ r ≤ 65536 ⌝ }
 {
     let a = told(out, held, why);
-    if why.kind != BARRED {
+    if why.kind != reason::BARRED {
         return a;
     }
     let f = reason::examine(own, one, lent);

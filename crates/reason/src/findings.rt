@@ -2,7 +2,7 @@
 ghost use mathlib.Core.Path.{_≡_};
 ghost use Rattle.reason.specs.Finding.{finding};
 
-// In what way it falls short, by the numbers below, 0 for nothing to tell; and the numbers of that way.
+// In what way it falls short, by the numbers below; and the numbers of that way.
 #[repr(C)]
 pub struct Finding {
     pub way: u8,
@@ -11,81 +11,93 @@ pub struct Finding {
     pub found: u64,
 }
 
+// Nothing to tell.
+pub const NOTHING: u8 = 0;
+
 // Bar 11: the number found is not from which to asked.
-pub(crate) const SP: u8 = 1;
+pub const SP: u8 = 1;
 
-pub(crate) const RF: u8 = 2;
+pub const RF: u8 = 2;
 
-pub(crate) const SR: u8 = 3;
+pub const SR: u8 = 3;
 
-pub(crate) const LQL: u8 = 4;
+pub const LQL: u8 = 4;
 
-pub(crate) const NODE_TYPE: u8 = 5;
+pub const NODE_TYPE: u8 = 5;
 
-pub(crate) const COLOUR: u8 = 6;
+pub const COLOUR: u8 = 6;
 
-pub(crate) const ORDER: u8 = 7;
+pub const ORDER: u8 = 7;
 
-pub(crate) const PREFERENCE: u8 = 8;
+pub const PREFERENCE: u8 = 8;
 
 // Bar 12: the container starts at which and has asked bytes; found are lent.
-pub(crate) const OUTSIDE: u8 = 9;
+pub const OUTSIDE: u8 = 9;
 
 // Bar 13: asked bytes are the least, and found are there; byte 0 is to be asked, and is found; byte 1 says asked, and found follow.
-pub(crate) const SHORT: u8 = 10;
+pub const SHORT: u8 = 10;
 
-pub(crate) const FIRST_BYTE: u8 = 11;
+pub const FIRST_BYTE: u8 = 11;
 
-pub(crate) const DATA: u8 = 12;
+pub const DATA: u8 = 12;
 
 // Bar 14: at the object of index which, asked bytes of header, or of body by its header; found are there.
-pub(crate) const HEADER: u8 = 13;
+pub const HEADER: u8 = 13;
 
-pub(crate) const BODY: u8 = 14;
+pub const BODY: u8 = 14;
 
 // Bar 19, NSA: it does not aggregate; it is overloaded.
-pub(crate) const AGGREGATOR: u8 = 15;
+pub const AGGREGATOR: u8 = 15;
 
-pub(crate) const OVERLOADED: u8 = 16;
+pub const OVERLOADED: u8 = 16;
 
 // Bar 19, NE with I=1: another type than asked is found; energy found, or unknown, is not above asked, at type which.
-pub(crate) const OTHER_TYPE: u8 = 17;
+pub const OTHER_TYPE: u8 = 17;
 
-pub(crate) const LITTLE_ENERGY: u8 = 18;
+pub const LITTLE_ENERGY: u8 = 18;
 
-pub(crate) const UNKNOWN_ENERGY: u8 = 19;
+pub const UNKNOWN_ENERGY: u8 = 19;
 
 // Bar 19, NE with I=0: the type asked to be left out is found; energy found, or unknown, is below asked, at type which.
-pub(crate) const BARRED_TYPE: u8 = 20;
+pub const BARRED_TYPE: u8 = 20;
 
-pub(crate) const BARRED_ENERGY: u8 = 21;
+pub const BARRED_ENERGY: u8 = 21;
 
-pub(crate) const BARRED_UNKNOWN: u8 = 22;
+pub const BARRED_UNKNOWN: u8 = 22;
 
 // Bar 19, HP: the count found is not below asked; there is none.
-pub(crate) const HOPS: u8 = 23;
+pub const HOPS: u8 = 23;
 
-pub(crate) const UNKNOWN_HOPS: u8 = 24;
+pub const UNKNOWN_HOPS: u8 = 24;
 
 // Bar 19, throughput: the link's, found, is below asked; it is unknown.
-pub(crate) const THROUGHPUT: u8 = 25;
+pub const THROUGHPUT: u8 = 25;
 
-pub(crate) const UNKNOWN_THROUGHPUT: u8 = 26;
+pub const UNKNOWN_THROUGHPUT: u8 = 26;
 
-// Bar 19, latency and ETX: the link's, found, is above asked. One more: the path's is, with which received. Two more: the link's is unknown.
-pub(crate) const LATENCY: u8 = 27;
+// Bar 19, latency: the link's, found, is above asked; the path's is, with which received; the link's is unknown.
+pub const LATENCY: u8 = 27;
 
-pub(crate) const ETX: u8 = 30;
+pub const PATH_LATENCY: u8 = 28;
+
+pub const UNKNOWN_LATENCY: u8 = 29;
+
+// Bar 19, ETX: in the same order.
+pub const ETX: u8 = 30;
+
+pub const PATH_ETX: u8 = 31;
+
+pub const UNKNOWN_ETX: u8 = 32;
 
 // Bar 19, LQL: the link's, found, is above asked; it is unknown.
-pub(crate) const QUALITY: u8 = 33;
+pub const QUALITY: u8 = 33;
 
-pub(crate) const UNKNOWN_QUALITY: u8 = 34;
+pub const UNKNOWN_QUALITY: u8 = 34;
 
 // Bar 19, colour: the link's, found, lacks the one asked; it has the one asked to be left out.
-pub(crate) const LACKS_COLOUR: u8 = 35;
+pub const LACKS_COLOUR: u8 = 35;
 
-pub(crate) const HAS_COLOUR: u8 = 36;
+pub const HAS_COLOUR: u8 = 36;
 
 // A finding of small numbers, as most are.
 pub(crate) fn small(way: u8, which: u8, asked: u8, found: u8) -> Finding
@@ -103,5 +115,5 @@ pub(crate) fn small(way: u8, which: u8, asked: u8, found: u8) -> Finding
 pub(crate) fn nothing() -> Finding
     ensures { λ r. ⌜ r ≡ finding 0 0 0 0 ⌝ }
 {
-    small(0, 0, 0, 0)
+    small(NOTHING, 0, 0, 0)
 }

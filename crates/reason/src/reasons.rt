@@ -9,13 +9,13 @@ use model::Own;
 use model::Verdict;
 
 // The kinds of a reason.
-const REFUSED: u8 = 0;
+pub const REFUSED: u8 = 0;
 
-const CHOSEN: u8 = 1;
+pub const CHOSEN: u8 = 1;
 
-const BARRED: u8 = 2;
+pub const BARRED: u8 = 2;
 
-const BEATEN: u8 = 3;
+pub const BEATEN: u8 = 3;
 
 // Why a candidate is the parent, or is not: by its kind the refusal of the question; nothing more; the bar's number and place; or the parent's
 // position, the first criterion on which the two differ, and what the candidate and the parent have there. What a kind does not have is 0;

@@ -3,13 +3,6 @@ use libc::STDOUT_FILENO;
 use model::Answer;
 use reason::Reason;
 
-// The kinds of a reason; the one left is that of a candidate that is beaten.
-const REFUSED: u8 = 0;
-
-const CHOSEN: u8 = 1;
-
-const BARRED: u8 = 2;
-
 pub fn text(bytes: &[u8]) {
     io::write_all(STDOUT_FILENO, bytes);
 }
@@ -116,9 +109,9 @@ fn beaten(why: Reason) {
 pub fn reason(why: Reason) {
     let kind = why.kind;
     match kind {
-        REFUSED => behind(b" refused-", why.refusal as u64),
-        CHOSEN => text(b" chosen"),
-        BARRED => verdict(why.number, why.place),
+        reason::REFUSED => behind(b" refused-", why.refusal as u64),
+        reason::CHOSEN => text(b" chosen"),
+        reason::BARRED => verdict(why.number, why.place),
         _ => beaten(why),
     }
 }
