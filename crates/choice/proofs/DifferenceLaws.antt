@@ -1,16 +1,15 @@
 -- The first criterion on which two candidates differ, and that the first difference decides.
-use mathlib.Core.Path.{_≡_, refl, sym, ap, _∙_}
-use Prim.Native.Nat.{ℕ, zero, suc, _-_, _/_, _%_, _≤_, _<_}
+use mathlib.Core.Path.{_≡_, refl, ap}
+use Prim.Native.Nat.{ℕ, _-_, _/_, _%_}
 use native.Mathlib.Omega.{arith}
-use mathlib.Core.Bool.{Bool, true, false, cond}
+use mathlib.Core.Bool.{Bool, true, false}
 use mathlib.Core.List.{List, [], _∷_}
 use lib.Dec.{eqb}
 use borrow.Author.Tests.{eq-eqb, ne-eqb, eqb-true, eqb-false}
 use Rattle.model.specs.declared.Quantity.{Quantity}
 use Rattle.model.specs.declared.Offer.{Offer}
 use Rattle.model.specs.Choice.{notCurrent, criteria}
-use Rattle.choice.specs.declared.differences.Difference.{Difference}
-use Rattle.choice.specs.Difference.{behind, firstDifference, standing, differ, differAt, differenceOf, aheadDifference}
+use Rattle.choice.specs.Difference.{behind, firstDifference, differ, differAt, differenceOf, aheadDifference}
 
 pub first-differ : (x y : ℕ) (xs ys : List ℕ) → (x ≡ y → ⊥) → firstDifference (x ∷ xs) (y ∷ ys) ≡ 1
 unfolding firstDifference

@@ -14,7 +14,7 @@ use Rattle.model.specs.declared.Own.{Own}
 use Rattle.model.specs.declared.Neighbour.{Neighbour}
 use Rattle.model.specs.declared.Candidate.{Candidate}
 use Rattle.model.specs.Rank.{resulting}
-use Rattle.model.specs.Verdict.{offerOf, verdict}
+use Rattle.model.specs.Verdict.{offerOf}
 use Rattle.model.specs.Choice.{badOwn, tooMany, currentPast, badEdition, currentOf, notCurrent, criteria}
 use Rattle.model.specs.Conditions.{barredByNothing}
 use Rattle.model.proofs.BoolLaws.{neither}
@@ -22,7 +22,7 @@ use Rattle.model.proofs.Selection.{current-is, at-most-one}
 use Rattle.model.proofs.Editions.{first-criteria, second-criteria}
 use Rattle.model.proofs.VerdictLaws.{admitted, nothing-bars, site-in-range}
 use Rattle.choice.specs.Difference.{standing, shown}
-use Rattle.reason.specs.Why.{Why, beaten, why}
+use Rattle.reason.specs.Why.{beaten, why}
 use Rattle.reason.specs.TrueReason.{refusedBy, Decides, Beaten, OnCriterion, BeatenOn}
 use Rattle.reason.proofs.TrueReason.{same-at, questions-exact, true-reason}
 

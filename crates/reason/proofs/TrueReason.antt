@@ -3,12 +3,12 @@ use mathlib.Core.Path.{_≡_, refl, sym, ap, subst, _∙_}
 use Prim.Native.Nat.{ℕ, zero, suc, _≤_, _<_}
 use native.Mathlib.Omega.{arith}
 use mathlib.Core.Bool.{Bool, true, false, cond, true≢false, false≢true}
-use mathlib.Core.List.{List, [], _∷_, map}
+use mathlib.Core.List.{List, [], _∷_}
 use mathlib.Core.Logic.{_↔_}
-use mathlib.Core.Option.{Option, none, some, Option·none-ne-some}
+use mathlib.Core.Option.{some}
 use lib.ListN.{length, getD, getElem?}
 use lib.Dec.{leb, ltb, eqb}
-use borrow.Author.Tests.{eq-eqb, ne-eqb, eqb-true, eqb-false, ltb-true, ltb-false, leb-false, le-ltb}
+use borrow.Author.Tests.{eq-eqb, ne-eqb, eqb-true, eqb-false, ltb-true, ltb-false, le-ltb}
 use Rattle.model.specs.declared.Quantity.{Quantity}
 use Rattle.model.specs.declared.Own.{Own}
 use Rattle.model.specs.declared.Offer.{Offer}
@@ -20,7 +20,6 @@ use Rattle.model.specs.declared.Choice.the-variants.{Nobody, Parent}
 use Rattle.model.specs.Number.{_when_, firstCase}
 use Rattle.model.specs.Verdict.{offerOf, verdict, isUnbarred}
 use Rattle.model.specs.Choice.{badOwn, tooMany, currentPast, badEdition, refusal, currentOf, criteria, precedes, parentOf, Result, verdicts, choiceOf, call}
-use Rattle.model.specs.Conditions.{barredByNothing}
 use Rattle.model.proofs.NumberLaws.{exact, exact-none}
 use Rattle.model.proofs.ListLaws.{at-map, map-at, at-below}
 use Rattle.model.proofs.ChoiceLaws.{not-preceding, Preferred, choose-preferred, choose-unbarred}
@@ -28,7 +27,6 @@ use Rattle.model.proofs.Refusals.{refusal-is}
 use Rattle.model.proofs.CallLaws.{call-is}
 use Rattle.model.proofs.VerdictLaws.{admitted, nothing-bars}
 use Rattle.choice.specs.Difference.{behind, firstDifference, standing, shown, differenceOf}
-use Rattle.choice.proofs.DifferenceLaws.{first-differ, first-same}
 use Rattle.reason.specs.Why.{Why, refused, chosen, barred, beaten, whyCases, whyRefusal, beatenOn, besideChoice, byVerdict, whyAt, unlessRefused, why}
 use Rattle.reason.proofs.WhyLaws.{asked-within}
 use Rattle.reason.specs.TrueReason.{refusedBy, QuestionExact, QuestionsExact, Decides, Beaten, ReasonTrue, TrueReason}

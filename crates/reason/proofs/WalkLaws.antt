@@ -9,7 +9,6 @@ use lib.ListN.{length, getD, getElem?, take, drop}
 use borrow.Author.Tests.{ne-eqb}
 use Rattle.model.specs.declared.Quantity.{Quantity}
 use Rattle.model.specs.declared.Quantity.the-variants.{Known, Unknown}
-use Rattle.model.specs.declared.Summary.{Summary}
 use Rattle.model.specs.declared.Neighbour.{Neighbour}
 use Rattle.model.specs.Object.{Object, before}
 use Rattle.model.specs.Reading as model

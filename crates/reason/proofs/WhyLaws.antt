@@ -22,7 +22,7 @@ use Rattle.choice.specs.Given.{given}
 use Rattle.choice.proofs.GivenLaws.{given-length, given-within}
 use Rattle.choice.proofs.PassLaws.{choice-snoc}
 use Rattle.reason.specs.declared.reasons.Reason.{Reason}
-use Rattle.reason.specs.Why.{whyRefusal, reasonOf, refused, byVerdict, whyAt, unlessRefused, why}
+use Rattle.reason.specs.Why.{whyRefusal, reasonOf, refused, byVerdict, unlessRefused, why}
 
 -- ---- refusals
 

@@ -11,7 +11,6 @@ use Rattle.model.specs.declared.Own.{Own}
 use Rattle.model.specs.declared.Neighbour.{Neighbour}
 use Rattle.model.specs.declared.Offer.{Offer}
 use Rattle.model.specs.declared.Candidate.{Candidate}
-use Rattle.model.specs.declared.Verdict.{Verdict}
 use Rattle.model.specs.declared.Verdict.the-variants.{Unbarred, Barred}
 use Rattle.model.specs.Number.{isSet, isUnknown, anyOf}
 use Rattle.model.specs.Object.{Object}

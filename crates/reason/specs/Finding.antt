@@ -1,6 +1,6 @@
 -- What was asked of a candidate that is barred by 11 to 14 or 19, and what was found. The ways are numbered in crates/reason/src/findings.rt.
 use Prim.Native.Nat.{ℕ, zero, suc, _+_, _-_, _/_, _%_}
-use mathlib.Core.Bool.{Bool, cond, not, _&&_, _||_}
+use mathlib.Core.Bool.{cond, not, _&&_, _||_}
 use mathlib.Core.List.{List}
 use mathlib.Core.Option.{Option, none, some}
 use lib.ListN.{length, getD, getElem?}

@@ -1,11 +1,10 @@
 -- Reasons and findings at their boundaries, worked out from documents 01 and 02 by hand.
 use Prim.Native.Nat.{ℕ}
 use mathlib.Core.List.{List, [], _∷_, _++_, map}
-use lib.ListN.{length, replicate}
+use lib.ListN.{replicate}
 use Rattle.model.specs.declared.Own.{Own}
 use Rattle.model.specs.declared.Neighbour.{Neighbour}
-use Rattle.model.specs.declared.Candidate.{Candidate}
-use Rattle.model.specs.Samples.{Example, _gives_, Holds, own0, ownAs, ownWith, ownIn, ownLimits, neighbourWith, ranked, neighbour0, nodeOf, linkOf, etxOf, latencyOf, throughputOf, lqlOf, plain, colourOf, sited, holding, empty, one, candidate, Calling, calling, single, hop}
+use Rattle.model.specs.Samples.{Example, _gives_, Holds, own0, ownAs, ownIn, ownLimits, ranked, neighbour0, nodeOf, etxOf, latencyOf, throughputOf, lqlOf, plain, colourOf, sited, empty, one, candidate, Calling, calling, single, hop}
 use Rattle.model.specs.Boundaries.Choices.{at, among}
 use Rattle.model.specs.Boundaries.Editions.{with}
 use Rattle.reason.specs.declared.findings.Finding.{Finding}

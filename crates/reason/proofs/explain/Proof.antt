@@ -1,7 +1,7 @@
 -- `explain` meets its contract. The loop's invariant: the best of the candidates before the index, and the verdict that is asked about once it
 -- is reached. The measure is how many are left.
 use Prim.Native.Nat.{_-_}
-use mathlib.Core.Path.{_≡_, sym, _∙_}
+use mathlib.Core.Path.{sym, _∙_}
 use native.Mathlib.Omega.{arith}
 use borrow.Author.Needs.{needs}
 use Rattle.model.specs.declared.Verdict.the-variants.{Barred}
@@ -17,74 +17,58 @@ Inv-loop own count lent position candidates refusal best₀ asked₀ i₀ best a
 abbrev μ-loop : tie.MeasureT-loop
 μ-loop own count lent position candidates refusal best₀ asked₀ i₀ best asked i = count - i
 
--- src/lib.rt:75:9
 refusal-of-requires : tie.Need-refusal-of-requires Inv-loop μ-loop
 refusal-of-requires c κs = search needs
 
--- src/lib.rt:77:9
 refused-requires : tie.Need-refused-requires Inv-loop μ-loop
 refused-requires c κs = search needs
 
--- src/lib.rt:77:9
 returns : tie.Need-returns Inv-loop μ-loop
 returns c =
     let args = c .before .before .before .before .args in
     refused-answer (args .own) (args .t2) (args .count) (args .lent .now) (args .position) (c .before .before .refusal-of .ensures) (c .before .if1 .taken) (c .refused .ensures)
 
--- src/lib.rt:85:5
 loop-holds : tie.Need-loop-holds Inv-loop μ-loop
 loop-holds c =
     let args = c .before .before .before .args in
     let w = asked-within (args .own) (args .count) (args .position) (sym (c .if1 .left) ∙ c .before .refusal-of .ensures) in
     asks-first (args .own) (args .lent .now) (args .t2) (args .count) (args .position) blank (Barred 0 noPlace) (search needs) (w .0) (w .1)
 
--- src/lib.rt:86:43
 mul-judge : tie.Need-mul-judge Inv-loop μ-loop
 mul-judge c = omega (arith, c .before .loop .inv .few)
 
--- src/lib.rt:86:43
 array-copy-out-judge : tie.Need-array-copy-out-judge Inv-loop μ-loop
 array-copy-out-judge c = omega (arith, c .before .loop .inv .few)
 
--- src/lib.rt:86:13
 judge-requires : tie.Need-judge-requires Inv-loop μ-loop
 judge-requires c κs = search needs
 
--- src/lib.rt:87:9
 kept-requires : tie.Need-kept-requires Inv-loop μ-loop
 kept-requires c κs = search needs
 
--- src/lib.rt:88:33
 cast-after : tie.Need-cast-after Inv-loop μ-loop
 cast-after c = omega (arith, c .before .before .before .before .loop .inv .few)
 
--- src/lib.rt:88:9
 after-requires : tie.Need-after-requires Inv-loop μ-loop
 after-requires c κs = search needs
 
--- src/lib.rt:89:9
 add-i : tie.Need-add-i Inv-loop μ-loop
 add-i c = omega arith
 
--- src/lib.rt:85:5
 loop-less : tie.Need-loop-less Inv-loop μ-loop
 loop-less c = omega arith
 
--- src/lib.rt:85:5
 loop-again : tie.Need-loop-again Inv-loop μ-loop
 loop-again c =
     let at-loop = c .before .before .before .before in
     asks-more (at-loop .before .loop .inv) (at-loop .loop-test .taken) (c .before .before .judge .ensures) (c .before .kept .ensures) (c .after .ensures)
 
--- src/lib.rt:91:36
 cast-by-verdict : tie.Need-cast-by-verdict Inv-loop μ-loop
 cast-by-verdict c = omega (arith, c .before .loop .inv .few, c .before .loop .inv .among)
 
--- src/lib.rt:91:5
 by-verdict-requires : tie.Need-by-verdict-requires Inv-loop μ-loop
 by-verdict-requires c κs = search needs
 
--- src/lib.rt:66:1
 returns-2 : tie.Need-returns-2 Inv-loop μ-loop
 returns-2 c =
     let at-loop = c .before .before in

@@ -1,5 +1,5 @@
 -- `first_difference` meets its contract: the first that differs, those before it being the same.
-use mathlib.Core.Path.{_≡_, sym, _∙_}
+use mathlib.Core.Path.{sym, _∙_}
 use borrow.Author.Needs.{needs}
 use Rattle.model.specs.Choice.{currentOf}
 use Rattle.model.proofs.Selection.{at-most-one}

@@ -1,78 +1,52 @@
-use Prim.Native.Nat.{ℕ, zero, suc, _+_, _-_, _*_, _^_, _≤_, _<_}
-use mathlib.Core.Path.{_≡_, refl, sym, ap, _∙_}
-use mathlib.Core.List.{List, [], _∷_, _++_, map}
-use mathlib.Core.Logic.{⊎-elim}
-use mathlib.Core.Bool.{Bool, true, false}
+use mathlib.Core.Path.{_∙_}
 use native.Mathlib.Omega.{arith}
-use native.Mathlib.Numerals.{add-one}
-use borrow.Author.Tests.{lt-ltb, le-ltb, le-leb, lt-leb, eq-eqb, ne-eqb, not-true, not-false}
-use lib.ListN.{length, getD, set, take, drop, length-set, length-take, length-drop, replicate, length-append}
-use lib.Seq.{drop-cons, take-suc, take-suc-set, set-split, getD-set-same}
 use borrow.Author.Needs.{needs}
 use Rattle.reason.proofs.BarLaws.{found-range, found-outside, found-inside}
 use Rattle.reason.proofs.bars.of_bar.Statement.{statement}
 use Rattle.reason.proofs.bars.of_bar.Tie as tie
-use Rattle.reason.proofs.bars.of_bar.Reads as reads
-use Rattle.reason.proofs.bars.of_bar.Lts as lts
-use Rattle.reason.proofs.bars.in_container.Reads as in-container-reads
-use Rattle.reason.proofs.frames.outside.Reads as outside-reads
-use Rattle.reason.proofs.ranges.out_of_range.Reads as out-of-range-reads
 
--- src/bars.rt:79:9
 out-of-range-requires : tie.Need-out-of-range-requires
 out-of-range-requires c κs = search needs
 
--- src/bars.rt:79:9
 returns : tie.Need-returns
 returns c =
     let args = c .before .before .before .before .args in
     c .out-of-range .ensures ∙ found-range (args .own) (args .candidate) (args .number) (args .place) (args .lent .now) (c .before .if1 .taken)
 
--- src/bars.rt:84:9
 outside-requires : tie.Need-outside-requires
 outside-requires c κs = search needs
 
--- src/bars.rt:84:9
 returns-2 : tie.Need-returns-2
 returns-2 c =
     let args = c .before .before .before .before .before .args in
     c .outside .ensures ∙ found-outside (args .own) (args .candidate) (args .number) (args .place) (args .lent .now) (c .before .before .if1 .left) (omega arith)
 
--- src/bars.rt:86:8
 sub-if3 : tie.Need-sub-if3
 sub-if3 c = search needs
 
--- src/bars.rt:87:9
 outside-requires-2 : tie.Need-outside-requires-2
 outside-requires-2 c κs = search needs
 
--- src/bars.rt:87:9
 returns-3 : tie.Need-returns-3
 returns-3 c =
     let args = c .before .before .before .before .before .before .args in
     c .outside2 .ensures ∙ found-outside (args .own) (args .candidate) (args .number) (args .place) (args .lent .now) (c .before .before .before .if1 .left) (omega arith)
 
--- src/bars.rt:89:57
 add-in-container : tie.Need-add-in-container
 add-in-container c = search needs
 
--- src/bars.rt:89:44
 sub-in-container : tie.Need-sub-in-container
 sub-in-container c = search needs
 
--- src/bars.rt:89:44
 part-in-container-start : tie.Need-part-in-container-start
 part-in-container-start c = search needs
 
--- src/bars.rt:89:44
 part-in-container-end : tie.Need-part-in-container-end
 part-in-container-end c = search needs
 
--- src/bars.rt:89:5
 in-container-requires : tie.Need-in-container-requires
 in-container-requires c κs = search needs
 
--- src/bars.rt:74:1
 returns-4 : tie.Need-returns-4
 returns-4 c =
     let args = c .before .before .before .before .before .before .before .args in

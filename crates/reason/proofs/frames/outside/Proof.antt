@@ -1,21 +1,8 @@
-use Prim.Native.Nat.{ℕ, zero, suc, _+_, _-_, _*_, _^_, _≤_, _<_}
-use mathlib.Core.Path.{_≡_, refl, sym, ap, _∙_}
-use mathlib.Core.List.{List, [], _∷_, _++_, map}
-use mathlib.Core.Logic.{⊎-elim}
-use mathlib.Core.Bool.{Bool, true, false}
-use native.Mathlib.Omega.{arith}
-use native.Mathlib.Numerals.{add-one}
-use borrow.Author.Needs.{needs}
-use borrow.Author.Tests.{lt-ltb, le-ltb, le-leb, lt-leb, eq-eqb, ne-eqb, not-true, not-false}
-use lib.ListN.{length, getD, set, take, drop, length-set, length-take, length-drop, replicate, length-append}
-use lib.Seq.{drop-cons, take-suc, take-suc-set, set-split, getD-set-same}
+use mathlib.Core.Path.{refl}
 use Rattle.reason.specs.Finding.{outsideFinding}
 use Rattle.reason.proofs.frames.outside.Statement.{statement}
 use Rattle.reason.proofs.frames.outside.Tie as tie
-use Rattle.reason.proofs.frames.outside.Reads as reads
-use Rattle.reason.proofs.frames.outside.Lts as lts
 
--- src/frames.rt:12:1
 returns : tie.Need-returns
 unfolding outsideFinding
 returns c = refl

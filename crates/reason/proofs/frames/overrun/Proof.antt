@@ -1,5 +1,5 @@
 -- `overrun` meets its contract. The loop's invariant: the objects before the cursor are whole. The measure is what is left behind it.
-use mathlib.Core.Path.{_≡_, refl, sym, _∙_}
+use mathlib.Core.Path.{sym, _∙_}
 use native.Mathlib.Omega.{arith}
 use borrow.Author.Needs.{needs}
 use Rattle.wire.proofs.StepLaws.{left, step-inside}

@@ -1,6 +1,5 @@
 -- `object_at` meets its contract. The loop's invariant: so many objects on from the cursor stands what is asked for. The measure is how many.
-use mathlib.Core.Path.{_≡_, refl, sym, _∙_}
-use native.Mathlib.Omega.{arith}
+use mathlib.Core.Path.{_≡_, sym, _∙_}
 use borrow.Author.Needs.{needs}
 use Rattle.wire.specs.Step.{firstCursor}
 use Rattle.reason.specs.Objects.{stepTo}

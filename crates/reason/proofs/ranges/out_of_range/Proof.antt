@@ -1,72 +1,47 @@
-use Prim.Native.Nat.{ℕ, zero, suc, _+_, _-_, _*_, _^_, _≤_, _<_}
-use mathlib.Core.Path.{_≡_, refl, sym, ap, _∙_}
-use mathlib.Core.List.{List, [], _∷_, _++_, map}
-use mathlib.Core.Logic.{⊎-elim}
-use mathlib.Core.Bool.{Bool, true, false}
-use native.Mathlib.Omega.{arith}
-use native.Mathlib.Numerals.{add-one}
-use borrow.Author.Tests.{lt-ltb, le-ltb, le-leb, lt-leb, eq-eqb, ne-eqb, not-true, not-false}
-use lib.ListN.{length, getD, set, take, drop, length-set, length-take, length-drop, replicate, length-append}
-use lib.Seq.{drop-cons, take-suc, take-suc-set, set-split, getD-set-same}
+use borrow.Author.Tests.{lt-ltb, le-ltb}
 use borrow.Author.Needs.{needs}
 use Rattle.reason.specs.Finding.{rangeFinding}
 use Rattle.reason.proofs.ranges.out_of_range.Statement.{statement}
 use Rattle.reason.proofs.ranges.out_of_range.Tie as tie
-use Rattle.reason.proofs.ranges.out_of_range.Reads as reads
-use Rattle.reason.proofs.ranges.out_of_range.Lts as lts
-use Rattle.reason.proofs.findings.small.Reads as small-reads
-use Rattle.reason.proofs.ranges.of_word.Reads as of-word-reads
 
--- src/ranges.rt:45:9
 small-requires : tie.Need-small-requires
 small-requires c κs = search needs
 
--- src/ranges.rt:45:9
 returns : tie.Need-returns
 unfolding rangeFinding
 returns c = rw (c .before .if1 .taken) (c .small .ensures)
 
--- src/ranges.rt:48:9
 small-requires-2 : tie.Need-small-requires-2
 small-requires-2 c κs = search needs
 
--- src/ranges.rt:48:9
 returns-2 : tie.Need-returns-2
 unfolding rangeFinding
 returns-2 c = rw (c .before .before .before .before .if1 .left, c .before .if2 .taken) (c .small2 .ensures)
 
--- src/ranges.rt:51:9
 small-requires-3 : tie.Need-small-requires-3
 small-requires-3 c κs = search needs
 
--- src/ranges.rt:51:9
 returns-3 : tie.Need-returns-3
 unfolding rangeFinding
 returns-3 c = rw (c .before .before .before .before .before .before .if1 .left, c .before .before .before .if2 .left, lt-ltb _ _ (c .before .if3 .taken)) (c .small3 .ensures)
 
--- src/ranges.rt:54:9
 small-requires-4 : tie.Need-small-requires-4
 small-requires-4 c κs = search needs
 
--- src/ranges.rt:54:9
 returns-4 : tie.Need-returns-4
 unfolding rangeFinding
 returns-4 c = rw (c .before .before .before .before .before .before .before .before .if1 .left, c .before .before .before .before .before .if2 .left, le-ltb _ _ (c .before .before .before .if3 .left), lt-ltb _ _ (c .before .if4 .taken)) (c .small4 .ensures)
 
--- src/ranges.rt:57:9
 small-requires-5 : tie.Need-small-requires-5
 small-requires-5 c κs = search needs
 
--- src/ranges.rt:57:9
 returns-5 : tie.Need-returns-5
 unfolding rangeFinding
 returns-5 c = rw (c .before .before .before .before .before .before .before .before .before .before .if1 .left, c .before .before .before .before .before .before .before .if2 .left, le-ltb _ _ (c .before .before .before .before .before .if3 .left), le-ltb _ _ (c .before .before .before .if4 .left), lt-ltb _ _ (c .before .if5 .taken)) (c .small5 .ensures)
 
--- src/ranges.rt:59:5
 of-word-requires : tie.Need-of-word-requires
 of-word-requires c κs = search needs
 
--- src/ranges.rt:41:1
 returns-6 : tie.Need-returns-6
 unfolding rangeFinding
 returns-6 c = rw (c .before .before .before .before .before .before .before .before .before .before .if1 .left, c .before .before .before .before .before .before .before .if2 .left, le-ltb _ _ (c .before .before .before .before .before .if3 .left), le-ltb _ _ (c .before .before .before .if4 .left), le-ltb _ _ (c .before .if5 .left)) (c .of-word .ensures)
