@@ -223,7 +223,7 @@ gardhnosk_reason gardhnosk_why(gardhnosk_own own, gardhnosk_candidates candidate
 
 /*
  * In what way a candidate that is barred by 11 to 14 or 19 falls short, and what which, asked and found of gardhnosk_finding are then. A
- * number that is not named is 0. Where several ways hold, the first of this order is told.
+ * number that is not named is 0. Where several hold of what bars it, for 19 of the object that bars, the first of this order is told.
  */
 enum {
     GARDHNOSK_WAY_NONE = 0, /* it is unbarred, or barred by another number: nothing is told */

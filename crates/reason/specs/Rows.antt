@@ -8,7 +8,8 @@ use Rattle.model.specs.Samples.{Example, _gives_, Holds, own0, ownAs, ownIn, ow
 use Rattle.model.specs.Boundaries.Choices.{at, among}
 use Rattle.model.specs.Boundaries.Editions.{with}
 use Rattle.reason.specs.declared.findings.Finding.{Finding}
-use Rattle.reason.specs.Why.{Why, refused, chosen, barred, beaten, why}
+use Rattle.reason.specs.declared.reasons.Reason.{Reason}
+use Rattle.reason.specs.Why.{reasonOf, why}
 use Rattle.reason.specs.Finding.{finding, nothing, findingOf}
 
 -- ---- reasons
@@ -22,11 +23,28 @@ infix 85 _ask_
 abbrev pub _ask_ : Calling → ℕ → Question
 w ask p = record { calls = w; position = p }
 
-abbrev pub answerTo : Question → Why
-answerTo q = why (q .calls .own) (q .calls .candidates) (q .calls .lent) (q .position)
+abbrev pub answerTo : Question → Reason
+answerTo q = reasonOf (why (q .calls .own) (q .calls .candidates) (q .calls .lent) (q .position))
+
+-- a reason by all its numbers
+abbrev pub told : (refusal kind number parent criterion place value against : ℕ) → Reason
+told f k n p c i v a = record { refusal = f; kind = k; number = n; parent = p; criterion = c; place = i; value = v; against = a }
+
+-- kind 0, a refusal; kind 1, the parent; kind 2, a bar and its place; kind 3, the parent's position, the criterion and both values
+abbrev pub refused : (number : ℕ) → Reason
+refused n = told n 0 0 255 0 65535 0 0
+
+abbrev pub chosen : Reason
+chosen = told 0 1 0 255 0 65535 0 0
+
+abbrev pub barred : (number place : ℕ) → Reason
+barred n i = told 0 2 n 255 0 i 0 0
+
+abbrev pub beaten : (parent criterion value against : ℕ) → Reason
+beaten b k v a = told 0 3 0 b k 65535 v a
 
 -- refusals, each also with the next; the position below the count and at it
-abbrev pub refusals : List (Example Question Why)
+abbrev pub refusals : List (Example Question Reason)
 refusals =
     among (ownAs 1 0 0 0 0 0x00 0 0) (at 100 ∷ []) ask 0 gives refused 1
     ∷ among (ownAs 1 0 0 0 0 0x00 0 0) (replicate 17 (at 100)) ask 0 gives refused 1
@@ -44,7 +62,7 @@ refusals =
     ∷ []
 
 -- chosen, also with a leaf answer (31), and the last of two; with nobody unbarred everyone is barred
-abbrev pub kinds : List (Example Question Why)
+abbrev pub kinds : List (Example Question Reason)
 kinds =
     among own0 (at 100 ∷ at 200 ∷ []) ask 0 gives chosen
     ∷ among own0 (at 200 ∷ at 100 ∷ []) ask 1 gives chosen
@@ -64,7 +82,7 @@ kinds =
     ∷ []
 
 -- each criterion alone, the one that is asked about losing on it, where every later one speaks for it; both values as their fields have them
-abbrev pub criteria : List (Example Question Why)
+abbrev pub criteria : List (Example Question Reason)
 criteria =
     among (ownIn 2 0x10 0) (with 3 0x40 7 100 ∷ with 0 0x00 0 300 ∷ []) ask 0 gives beaten 1 1 3 0
     ∷ among (ownIn 2 0x10 1) (with 6 0x00 0 300 ∷ with 7 0x40 7 100 ∷ []) ask 1 gives beaten 0 1 7 6
@@ -108,6 +126,13 @@ ranges =
     ∷ alone own0 (lqlOf 8) gives (finding 4 0 7 8 ∷ [])
     ∷ alone own0 (nodeOf 3 0x00 0) gives (nothing ∷ [])
     ∷ alone own0 (nodeOf 4 0x00 0) gives (finding 5 0 3 4 ∷ [])
+    ∷ alone own0 (ranked 256 200 9 6) gives (finding 2 1 4 200 ∷ [])
+    ∷ alone own0 (ranked 256 4 9 77) gives (finding 3 0 5 77 ∷ [])
+    ∷ alone own0 (lqlOf 200) gives (finding 4 0 7 200 ∷ [])
+    ∷ alone own0 (nodeOf 99 0x00 0) gives (finding 5 0 3 99 ∷ [])
+    ∷ alone own0 (colourOf 65535) gives (finding 6 0 1023 65535 ∷ [])
+    ∷ alone (ownIn 2 0x00 0) (sited 255 0x00 0 256) gives (finding 7 0 7 255 ∷ [])
+    ∷ alone (ownIn 2 0x00 0) (sited 0 0x00 66 256) gives (finding 8 0 7 66 ∷ [])
     ∷ alone own0 (colourOf 1023) gives (nothing ∷ [])
     ∷ alone own0 (plain 256 0x00 1024 8 8) gives (finding 6 0 1023 1024 ∷ [])
     ∷ alone (ownIn 2 0x00 0) (sited 7 0x00 7 256) gives (nothing ∷ [])
@@ -122,6 +147,7 @@ frames =
     calling own0 (candidate neighbour0 1 2 ∷ candidate neighbour0 3 0 ∷ candidate neighbour0 2 0 ∷ []) empty gives (finding 9 1 2 2 ∷ finding 9 3 0 2 ∷ finding 10 0 2 0 ∷ [])
     ∷ single own0 neighbour0 (0x02 ∷ []) gives (finding 10 0 2 1 ∷ [])
     ∷ single own0 neighbour0 (0x03 ∷ 0x01 ∷ []) gives (finding 11 0 2 3 ∷ [])
+    ∷ single own0 neighbour0 (0x07 ∷ 0x00 ∷ []) gives (finding 11 0 2 7 ∷ [])
     ∷ single own0 neighbour0 (0x02 ∷ 0x01 ∷ []) gives (finding 12 0 1 0 ∷ [])
     ∷ single own0 neighbour0 (0x02 ∷ 0x0D ∷ 0x07 ∷ 0x00 ∷ 0x00 ∷ 0x02 ∷ 0x01 ∷ 0x00 ∷ []) gives (finding 12 0 13 6 ∷ [])
     ∷ hop own0 neighbour0 (0x07 ∷ []) gives (finding 13 0 4 1 ∷ [])
@@ -150,6 +176,16 @@ nodes =
     ∷ hop own0 (nodeOf 1 0x04 40) (rule 2 (0x0B ∷ 50 ∷ [])) gives (finding 18 1 50 40 ∷ [])
     ∷ hop own0 (nodeOf 1 0x04 50) (rule 2 (0x0B ∷ 50 ∷ [])) gives (finding 18 1 50 50 ∷ [])
     ∷ hop own0 (nodeOf 1 0x04 51) (rule 2 (0x0B ∷ 50 ∷ [])) gives (nothing ∷ [])
+    ∷ hop own0 (nodeOf 3 0x04 0) (rule 2 (0x0A ∷ 50 ∷ [])) gives (finding 17 0 1 3 ∷ [])
+    ∷ hop own0 (nodeOf 2 0x04 7) (rule 2 (0x0F ∷ 50 ∷ [])) gives (finding 17 0 3 2 ∷ [])
+    ∷ hop own0 (nodeOf 0 0x04 7) (rule 2 (0x09 ∷ 200 ∷ [])) gives (finding 18 0 200 7 ∷ [])
+    ∷ hop own0 (nodeOf 3 0x04 255) (rule 2 (0xFF ∷ 255 ∷ [])) gives (finding 18 3 255 255 ∷ [])
+    ∷ hop own0 (nodeOf 2 0x00 9) (rule 2 (0x0D ∷ 0 ∷ [])) gives (finding 19 2 0 0 ∷ [])
+    ∷ hop own0 (nodeOf 3 0x04 90) (rule 2 (0x06 ∷ 50 ∷ [])) gives (finding 20 0 3 3 ∷ [])
+    ∷ hop own0 (nodeOf 0 0x04 3) (rule 2 (0x01 ∷ 99 ∷ [])) gives (finding 21 0 99 3 ∷ [])
+    ∷ hop own0 (nodeOf 3 0x00 3) (rule 2 (0x07 ∷ 99 ∷ [])) gives (finding 22 3 99 0 ∷ [])
+    ∷ hop own0 neighbour0 (rule 3 (0x00 ∷ 4 ∷ []) ++ one 3 0x00 0x00 (0x00 ∷ 9 ∷ [])) gives (finding 23 0 4 9 ∷ [])
+    ∷ hop own0 neighbour0 (rule 3 (0x00 ∷ 200 ∷ [])) gives (finding 24 0 200 0 ∷ [])
     ∷ hop own0 (nodeOf 1 0x00 90) (rule 2 (0x0B ∷ 50 ∷ [])) gives (finding 19 1 50 0 ∷ [])
     ∷ hop own0 (nodeOf 1 0x04 90) (rule 2 (0x02 ∷ 50 ∷ [])) gives (finding 20 0 1 1 ∷ [])
     ∷ hop own0 (nodeOf 2 0x04 49) (rule 2 (0x05 ∷ 50 ∷ [])) gives (finding 21 2 50 49 ∷ [])
@@ -182,6 +218,18 @@ links =
     ∷ hop own0 (colourOf 1) (rule 8 (0x00 ∷ 0x00 ∷ 0xC1 ∷ [])) gives (finding 35 0 3 1 ∷ [])
     ∷ hop own0 (colourOf 7) (rule 8 (0x00 ∷ 0x00 ∷ 0xC1 ∷ [])) gives (nothing ∷ [])
     ∷ hop own0 (colourOf 7) (rule 8 (0x00 ∷ 0x00 ∷ 0xC0 ∷ [])) gives (finding 36 0 3 7 ∷ [])
+    -- far from their limits, and with every byte of a number
+    ∷ hop own0 (throughputOf 5) (rule 4 (0x01 ∷ 0x02 ∷ 0x03 ∷ 0x04 ∷ [])) gives (finding 25 0 16909060 5 ∷ [])
+    ∷ hop own0 neighbour0 (rule 4 (0xFF ∷ 0x00 ∷ 0x00 ∷ 0x00 ∷ [])) gives (finding 26 0 4278190080 0 ∷ [])
+    ∷ hop own0 (latencyOf 4000000000) (rule 5 (0x00 ∷ 0x00 ∷ 0x00 ∷ 0x09 ∷ [])) gives (finding 27 0 9 4000000000 ∷ [])
+    ∷ hop own0 (latencyOf 30) (one 5 0x00 0x00 (0x00 ∷ 0x01 ∷ 0x00 ∷ 0x00 ∷ []) ++ rule 5 (0x00 ∷ 0x00 ∷ 0x00 ∷ 0x09 ∷ [])) gives (finding 28 65536 9 65566 ∷ [])
+    ∷ hop own0 (etxOf 60000) (rule 7 (0x00 ∷ 0x07 ∷ [])) gives (finding 30 0 7 60000 ∷ [])
+    ∷ hop own0 (etxOf 65535) (one 7 0x00 0x00 (0xFF ∷ 0xFF ∷ []) ++ rule 7 (0x12 ∷ 0x34 ∷ [])) gives (finding 31 65535 4660 131070 ∷ [])
+    ∷ hop own0 neighbour0 (one 7 0x00 0x00 (0x00 ∷ 0x05 ∷ []) ++ rule 7 (0x12 ∷ 0x34 ∷ [])) gives (finding 32 5 4660 0 ∷ [])
+    ∷ hop own0 (lqlOf 7) (rule 6 (0x00 ∷ 0x20 ∷ [])) gives (finding 33 0 1 7 ∷ [])
+    ∷ hop own0 (lqlOf 0) (rule 6 (0x00 ∷ 0xE0 ∷ [])) gives (finding 34 0 7 0 ∷ [])
+    ∷ hop own0 (colourOf 5) (rule 8 (0x00 ∷ 0x80 ∷ 0x41 ∷ [])) gives (finding 35 0 513 5 ∷ [])
+    ∷ hop own0 (colourOf 1023) (rule 8 (0x00 ∷ 0x80 ∷ 0x7E ∷ [])) gives (finding 36 0 513 1023 ∷ [])
     -- the object that bars is the one that is told of: the first that is not met, behind one that is met and one that is optional
     ∷ hop own0 (lqlOf 3) (rule 6 (0x00 ∷ 0x60 ∷ []) ++ one 7 0x03 0x00 (0x00 ∷ 0x00 ∷ []) ++ rule 4 (0x00 ∷ 0x00 ∷ 0x00 ∷ 0x09 ∷ [])) gives (finding 26 0 9 0 ∷ [])
     ∷ []
