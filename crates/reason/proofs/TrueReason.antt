@@ -127,12 +127,22 @@ module _ (own : Own) (cs : List Candidate) (lent : List ℕ) (p : ℕ) where
       go zero e = let (c, f) = at-some cs p (asked-within own (length cs) p (sym e) .1) in rw f (reason-unrefused (byVerdict (currentOf own) (choiceOf own cs lent) p (verdict own lent c)) (verdict-told (currentOf own) (choiceOf own cs lent) p (verdict own lent c)))
       go (suc n) e = refl
 
+-- 4 is not among the refusals of a question
+never-four : (a b c d e : Bool) → firstCase (1 when a ∷ 2 when b ∷ 3 when c ∷ 5 when d ∷ 6 when e ∷ []) ≡ 4 → ⊥
+never-four true b c d e z = omega arith
+never-four false true c d e z = omega arith
+never-four false false true d e z = omega arith
+never-four false false false true e z = omega arith
+never-four false false false false true z = omega arith
+never-four false false false false false z = omega arith
+
 question-exact : (own : Own) (n p : ℕ) → QuestionExact own n p (whyRefusal own n p)
 unfolding whyRefusal
 question-exact own n p = record {
   refusal-1 = exact (whyCases own n p) 0 refl;
   refusal-2 = exact (whyCases own n p) 1 refl;
   refusal-3 = exact (whyCases own n p) 2 refl;
+  never-4 = never-four (badOwn own) (tooMany n) (currentPast own n) (badEdition own) (leb n p);
   refusal-5 = exact (whyCases own n p) 3 refl;
   refusal-6 = exact (whyCases own n p) 4 refl;
   unrefused = exact-none (whyCases own n p) refl;

@@ -29,11 +29,12 @@ refusedBy chosen = 0
 refusedBy (barred n i) = 0
 refusedBy (beaten b k v a) = 0
 
--- `given`: the refusal of a question about a position; 1, 2, 3 and 5 as of a call, then 6, position not below the count; 4 is never given
+-- `given`: the refusal of a question about a position; 1, 2, 3 and 5 as of a call, then 6, position not below the count
 pub record QuestionExact (own : Own) (count position given : ℕ) : Type 0 where
   pub refusal-1 : (given ≡ 1) ↔ FirstToHold [] (badOwn own)
   pub refusal-2 : (given ≡ 2) ↔ FirstToHold (badOwn own ∷ []) (tooMany count)
   pub refusal-3 : (given ≡ 3) ↔ FirstToHold (badOwn own ∷ tooMany count ∷ []) (currentPast own count)
+  pub never-4 : given ≡ 4 → ⊥
   pub refusal-5 : (given ≡ 5) ↔ FirstToHold (badOwn own ∷ tooMany count ∷ currentPast own count ∷ []) (badEdition own)
   pub refusal-6 : (given ≡ 6) ↔ FirstToHold (badOwn own ∷ tooMany count ∷ currentPast own count ∷ badEdition own ∷ []) (leb count position)
   pub unrefused : (given ≡ 0) ↔ NoneOf (badOwn own ∷ tooMany count ∷ currentPast own count ∷ badEdition own ∷ leb count position ∷ [])
@@ -74,7 +75,7 @@ TrueReason = (own : Own) (cs : List Candidate) (lent out : List ℕ) (p : ℕ) �
 
 -- ---- the criteria by number, and both values by the candidates' own numbers
 
--- which is told of the first criterion on which candidate c at position p and the parent d at position b differ: that the parent is the better there
+-- what is told of criterion k, on which candidate c at position p loses to the parent d at position b: what the two have, v and a, and that a is the better
 pub record OnCriterion (own : Own) (p : ℕ) (c : Neighbour) (b : ℕ) (d : Neighbour) (k v a : ℕ) : Type 0 where
   pub one-of-six : (1 ≤ k) × (k ≤ 6)
   pub edition : k ≤ 3 → own .edition ≡ 2
