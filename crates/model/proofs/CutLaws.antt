@@ -51,7 +51,7 @@ cutBody-byte1 recorded t b = refl
 cutBody-byte1 aggregated true b = take-byte1 b
 cutBody-byte1 aggregated false b = refl
 
-cut-append : (es os : List Object) → cut (es ++ os) ≡ cut es ++ cut os
+pub cut-append : (es os : List Object) → cut (es ++ os) ≡ cut es ++ cut os
 unfolding cut
 cut-append [] os = refl
 cut-append (e ∷ es) os = go (known (kind e)) (cut-append es os)

@@ -18,6 +18,8 @@ pub mod Exact
 pub mod Untouched
 pub mod SummaryLaws
 pub mod CutLaws
+pub mod RunLaws
+pub mod PackLaws
 pub mod ReadingLaws
 pub mod UpdateLaws
 pub mod PlaceLaws

@@ -9,6 +9,8 @@ pub mod Update
 pub mod Choice
 pub mod Listing
 pub mod Cut
+pub mod Run
+pub mod Pack
 pub mod Conditions
 pub mod Selection
 pub mod Exact

@@ -1,0 +1,145 @@
+-- Options and their bytes; the cut of a run.
+use mathlib.Core.Path.{_≡_, refl, sym, ap, _∙_}
+use Prim.Native.Nat.{ℕ, zero, suc, _≤_}
+use native.Mathlib.Nat.{not-suc-le-zero}
+use mathlib.Core.Bool.{Bool, true, false, cond}
+use mathlib.Core.List.{List, [], _∷_, _++_, map, append-assoc, append-nil}
+use mathlib.Core.Option.{Option, none, some, Option·none-ne-some}
+use native.Mathlib.Omega.{arith}
+use lib.ListN.{length, take, drop, length-append, take-append-drop, length-drop}
+use lib.Seq.{length-take-le, take-append-seam, drop-append-seam}
+use lib.Dec.{leb, ltb}
+use borrow.Author.Tests.{le-leb, leb-true}
+use Rattle.model.specs.Number.{firstOf}
+use Rattle.model.specs.Object.{Object, split, join, standings, known, kind}
+use Rattle.model.specs.Reading.{noPlace, Reading, refused, wellFormed, readAs, readObjects, objectBar, isNone}
+use Rattle.model.specs.Cut.{keepIf, cut, cutData, cutObject}
+use Rattle.model.proofs.ObjectLaws.{split-join, join-split}
+use Rattle.model.proofs.CutLaws.{objectBars-cut, cut-append}
+use Rattle.model.specs.Run.{RplOption, pad1, option, optionBytes, joinOptions, leading, optionsUpTo, options, isContainer, containers, joined, objectsOf, optionsIn, runObjects, optionCut, ninthContainer, readRun, cutOption, cutRun, concat, joinedData}
+
+-- two limits that are at least the length give the same
+optionsUpTo-enough : (k j : ℕ) (bs : List ℕ) → length bs ≤ k → length bs ≤ j → optionsUpTo k bs ≡ optionsUpTo j bs
+unfolding optionsUpTo
+optionsUpTo-enough zero zero bs h i = refl
+optionsUpTo-enough zero (suc j) [] h i = refl
+optionsUpTo-enough zero (suc j) (t ∷ bs) h i = absurd (not-suc-le-zero h)
+optionsUpTo-enough (suc k) zero [] h i = refl
+optionsUpTo-enough (suc k) zero (t ∷ bs) h i = absurd (not-suc-le-zero i)
+optionsUpTo-enough (suc k) (suc j) [] h i = refl
+optionsUpTo-enough (suc k) (suc j) (zero ∷ bs) h i = rw (optionsUpTo-enough k j bs (omega arith) (omega arith))
+optionsUpTo-enough (suc k) (suc j) (suc t ∷ []) h i = refl
+optionsUpTo-enough (suc k) (suc j) (suc t ∷ n ∷ bs) h i =
+    rw (optionsUpTo-enough k j (drop n bs) (rw length-drop (omega arith)) (rw length-drop (omega arith)))
+
+-- `options` unfolded
+pub options-pad : (bs : List ℕ) → options (0 ∷ bs) ≡ leading pad1 (options bs)
+unfolding options optionsUpTo
+options-pad bs = refl
+
+pub options-step : (t n : ℕ) (bs : List ℕ) → options (suc t ∷ n ∷ bs) ≡ cond (leb n (length bs)) (leading (option t (take n bs)) (options (drop n bs))) none
+unfolding options optionsUpTo
+options-step t n bs = rw (optionsUpTo-enough (suc (length bs)) (length (drop n bs)) (drop n bs) (rw length-drop (omega arith)) (omega arith))
+
+-- options before those of a run
+abbrev pub following : List RplOption → Option (List RplOption) → Option (List RplOption)
+following s none = none
+following s (some t) = some (s ++ t)
+
+leading-following : (o : RplOption) (s : List RplOption) (r : Option (List RplOption)) → leading o (following s r) ≡ following (o ∷ s) r
+leading-following o s none = refl
+leading-following o s (some t) = refl
+
+following-nil : (r : Option (List RplOption)) → r ≡ following [] r
+following-nil none = refl
+following-nil (some t) = refl
+
+pub options-append : (s : List RplOption) (bs : List ℕ) → options (joinOptions s ++ bs) ≡ following s (options bs)
+unfolding joinOptions
+options-append [] bs = following-nil (options bs)
+options-append (pad1 ∷ s) bs = rw (options-pad (joinOptions s ++ bs), options-append s bs) (leading-following pad1 s (options bs))
+options-append (option t d ∷ s) bs =
+    let fits : length d ≤ length (d ++ (joinOptions s ++ bs)) = simp length-append (omega arith) in
+    rw (append-assoc d (joinOptions s) bs, options-step t (length d) (d ++ (joinOptions s ++ bs)), le-leb (length d) (length (d ++ (joinOptions s ++ bs))) fits, take-append-seam d (joinOptions s ++ bs), drop-append-seam d (joinOptions s ++ bs), options-append s bs)
+    (leading-following (option t d) s (options bs))
+
+pub options-join : (os : List RplOption) → options (joinOptions os) ≡ some os
+unfolding options optionsUpTo
+options-join os = ap options (sym (append-nil (joinOptions os))) ∙ options-append os [] ∙ ap some (append-nil os)
+
+-- ---- the cut
+
+pub containers-cut : (os : List RplOption) → containers (map cutOption os) ≡ map (λ d. cutData (split d)) (containers os)
+unfolding containers
+containers-cut [] = refl
+containers-cut (pad1 ∷ os) = containers-cut os
+containers-cut (option t d ∷ os) = go (isContainer t) (containers-cut os)
+  where
+    go : (b : Bool) → containers (map cutOption os) ≡ map (λ d. cutData (split d)) (containers os)
+        → keepIf b (cond b (cutData (split d)) d) (containers (map cutOption os)) ≡ map (λ d. cutData (split d)) (keepIf b d (containers os))
+    go true ih = rw ih
+    go false ih = ih
+
+-- what joined objects say that are whole
+joined-whole : (r s : Option (List Object)) (os : List Object) → joined r s ≡ some os → (a : List Object) × (b : List Object) × (r ≡ some a) × (s ≡ some b) × (os ≡ a ++ b)
+joined-whole none s os e = absurd (Option·none-ne-some os e)
+joined-whole (some a) none os e = absurd (Option·none-ne-some os e)
+joined-whole (some a) (some b) os e = (a, b, refl, refl, cc)
+
+pub objectsOf-cut : (ds : List (List ℕ)) (os : List Object) → objectsOf ds ≡ some os → objectsOf (map (λ d. cutData (split d)) ds) ≡ some (cut os)
+unfolding objectsOf cut
+objectsOf-cut [] os e = let q : os ≡ [] = cc in rw q
+objectsOf-cut (d ∷ ds) os e = let (a, b, p, q, s) = joined-whole (split d) (objectsOf ds) os e in go a b p s (objectsOf-cut ds b q)
+  where
+    go : (a b : List Object) → split d ≡ some a → os ≡ a ++ b → objectsOf (map (λ d. cutData (split d)) ds) ≡ some (cut b)
+        → joined (split (cutData (split d))) (objectsOf (map (λ d. cutData (split d)) ds)) ≡ some (cut os)
+    go a b p s ih = rw (p, split-join (cut a), ih, s, cut-append a b)
+
+length-map-cut : (ds : List (List ℕ)) → length (map (λ d. cutData (split d)) ds) ≡ length ds
+length-map-cut [] = refl
+length-map-cut (d ∷ ds) = ap suc (length-map-cut ds)
+
+-- what a reading says that gives objects
+pub record ReadAs (bs : List ℕ) (os : List Object) : Type 0 where
+  pub run : List RplOption
+  pub options-are : options bs ≡ some run
+  pub few : ninthContainer bs ≡ false
+  pub objects : runObjects bs ≡ some os
+  pub noBar : firstOf objectBar (standings [] os) ≡ 0
+
+readAs-objects : (n p : ℕ) (ts os : List Object) → readAs n p ts ≡ wellFormed os → (n ≡ 0) × (ts ≡ os)
+readAs-objects zero p ts os e = (refl, cc)
+readAs-objects (suc n) p ts os e = (cc, cc)
+
+read-objects : (r : Option (List Object)) (os : List Object) → readObjects r ≡ wellFormed os → (r ≡ some os) × (firstOf objectBar (standings [] os) ≡ 0)
+read-objects none os e = (cc, cc)
+read-objects (some ts) os e = let (z, s) = readAs-objects (firstOf objectBar (standings [] ts)) _ ts os e in (cc, rw (← s) z)
+
+pub run-objects : (bs : List ℕ) (os : List Object) → readRun bs ≡ wellFormed os → ReadAs bs os
+unfolding readRun
+run-objects bs os e = go (options bs) refl (ninthContainer bs) refl e
+  where
+    go : (r : Option (List RplOption)) → options bs ≡ r → (b : Bool) → ninthContainer bs ≡ b
+        → cond (isNone r) (refused 22 noPlace) (cond b (refused 23 noPlace) (readObjects (runObjects bs))) ≡ wellFormed os → ReadAs bs os
+    go none q b f e = record { run = []; options-are = cc; few = cc; objects = cc; noBar = cc }
+    go (some run) q true f e = record { run = run; options-are = q; few = cc; objects = cc; noBar = cc }
+    go (some run) q false f e = let (s, z) = read-objects (runObjects bs) os e in record { run = run; options-are = q; few = f; objects = s; noBar = z }
+
+-- a run whose options are whole
+pub reading-options : (run : List RplOption) (os : List Object) → ltb 8 (length (containers run)) ≡ false → objectsOf (containers run) ≡ some os → firstOf objectBar (standings [] os) ≡ 0
+    → readRun (joinOptions run) ≡ wellFormed os
+unfolding readRun
+reading-options run os f e z = rw (options-join run, f, e, z)
+
+-- a well-formed run, cut, is well-formed and holds the cut objects
+pub run-cut : (bs : List ℕ) (os : List Object) → readRun bs ≡ wellFormed os → readRun (cutRun bs) ≡ wellFormed (cut os)
+unfolding cutRun cut
+run-cut bs os e =
+    let r = run-objects bs os e in
+    go (r .run) (r .options-are) (r .few) (r .objects) (r .noBar)
+  where
+    go : (run : List RplOption) → options bs ≡ some run → ninthContainer bs ≡ false → runObjects bs ≡ some os → firstOf objectBar (standings [] os) ≡ 0 → readRun (cutRun bs) ≡ wellFormed (cut os)
+    go run q few objects z =
+        let f : ltb 8 (length (containers run)) ≡ false = rw q at few in
+        let o : objectsOf (containers run) ≡ some os = rw q at objects in
+        rw q (reading-options (map cutOption run) (cut os) (rw (containers-cut run, length-map-cut (containers run)) f) (rw (containers-cut run) (objectsOf-cut (containers run) os o)) (objectBars-cut [] os z))
