@@ -280,7 +280,7 @@ packed-bytes (d ∷ ds) l h =
     more-bytes 2 (length d ∷ d ++ joinOptions (map (option 1) ds)) (omega arith)
     (more-bytes (length d) (d ++ joinOptions (map (option 1) ds)) (ltb-false 255 (length d) a) (both-bytes d (joinOptions (map (option 1) ds)) x (packed-bytes ds b y)))
 
-containers-are : (ds : List (List ℕ)) → containers (map (option 1) ds) ≡ ds
+pub containers-are : (ds : List (List ℕ)) → containers (map (option 1) ds) ≡ ds
 unfolding containers
 containers-are [] = refl
 containers-are (d ∷ ds) = rw (containers-are ds)

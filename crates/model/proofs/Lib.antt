@@ -30,6 +30,7 @@ pub mod Unknown
 pub mod SecondCall
 pub mod TlvLaws
 pub mod RoundTrip
+pub mod Runs
 pub mod ShapeLaws
 pub mod ReadBack
 pub mod SumLaws
