@@ -81,7 +81,7 @@ unfolding readRun containers objectsOf options optionsUpTo split splitUpTo first
 no-container os h = (rw (options-join os, no-containers os h), rw (options-join os, no-containers os h) refl)
 
 -- containers of options one behind another
-containers-append : (a b : List RplOption) → containers (a ++ b) ≡ containers a ++ containers b
+pub containers-append : (a b : List RplOption) → containers (a ++ b) ≡ containers a ++ containers b
 unfolding containers
 containers-append [] b = refl
 containers-append (pad1 ∷ a) b = containers-append a b
@@ -92,10 +92,10 @@ containers-append (option t d ∷ a) b = go (isContainer t) (containers-append a
     go false ih = ih
 
 -- a run is read by its options
-abbrev readAsOptions : Option (List RplOption) → Reading
+abbrev pub readAsOptions : Option (List RplOption) → Reading
 readAsOptions r = cond (isNone r) (refused 22 noPlace) (cond (ltb 8 (length (containers (optionsIn r)))) (refused 23 noPlace) (readObjects (joinedObjects r)))
 
-read-by : (bs : List ℕ) → readRun bs ≡ readAsOptions (options bs)
+pub read-by : (bs : List ℕ) → readRun bs ≡ readAsOptions (options bs)
 unfolding readRun
 read-by bs = refl
 
@@ -115,7 +115,7 @@ stepped a o h none = refl
 stepped a o h (some b) = rw (append-assoc a (o ∷ []) b, containers-append a (o ∷ b), containers-append a b, no-more o b h)
 
 -- options end to end, one more
-options-one : (a : List RplOption) (o : RplOption) → joinOptions (a ++ (o ∷ [])) ≡ joinOptions a ++ optionBytes o
+pub options-one : (a : List RplOption) (o : RplOption) → joinOptions (a ++ (o ∷ [])) ≡ joinOptions a ++ optionBytes o
 unfolding joinOptions
 options-one [] o = append-nil (optionBytes o)
 options-one (p ∷ a) o = rw (options-one a o, append-assoc (optionBytes p) (joinOptions a) (optionBytes o))

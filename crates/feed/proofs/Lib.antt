@@ -1,0 +1,4 @@
+pub mod StepLaws
+pub mod FedLaws
+pub mod MirrorLaws
+pub mod Parts
