@@ -2,3 +2,4 @@ pub mod StepLaws
 pub mod FedLaws
 pub mod MirrorLaws
 pub mod Parts
+pub mod Rows

@@ -18,7 +18,9 @@ pub struct Fed {
 
 // Behind a type byte, in an option, and for a buffer that is too short.
 const TYPED: u8 = 1;
+
 const WITHIN: u8 = 2;
+
 const SHORT: u8 = 255;
 
 // Bytes that hold what is kept of any run: eight containers, an empty one, and the type byte of an option that is cut short.
