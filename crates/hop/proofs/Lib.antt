@@ -1,4 +1,5 @@
 pub mod RunLaws
+pub mod PackingLaws
 pub mod BodyLaws
 pub mod PlanLaws
-pub mod SendLaws
+pub mod BuildLaws

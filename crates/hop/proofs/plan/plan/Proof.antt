@@ -1,9 +1,8 @@
 use mathlib.Core.Path.{sym, _∙_}
 use native.Mathlib.Omega.{arith}
 use borrow.Author.Needs.{needs}
-use lib.ListN.{length-take, length-drop}
 use Rattle.wire.proofs.StepLaws.{left, step-inside}
-use Rattle.hop.proofs.PlanLaws.{Planning, planning-first, planning-found, planning-room, planning-short, planning-end, planning-cut}
+use Rattle.hop.proofs.PlanLaws.{Planning, planning-first, planning-found, planning-end, planning-cut}
 use Rattle.hop.proofs.plan.plan.Statement.{statement}
 use Rattle.hop.proofs.plan.plan.Tie as tie
 
@@ -42,12 +41,7 @@ part-plan-object-end c =
     step-inside _ _ (sym (at-step .next .ensures) ∙ c .before .header .given .1) .1 .0
 
 plan-object-requires : tie.Need-plan-object-requires Inv-loop μ-loop
-plan-object-requires c κs =
-    let at-step = c .before .before .before .before in
-    let found = sym (at-step .next .ensures) ∙ c .before .before .header .given .1 in
-    let inside = step-inside _ _ found in
-    let room = planning-room _ _ _ _ _ (at-step .before .loop .inv) found (at-step .before .before .before .before .pre) in
-    (rw (length-take, length-drop) (omega arith), room .1)
+plan-object-requires c κs = c .before .before .before .before .before .loop .inv .small
 
 loop-less : tie.Need-loop-less Inv-loop μ-loop
 loop-less c =
@@ -58,7 +52,8 @@ loop-again : tie.Need-loop-again Inv-loop μ-loop
 loop-again c =
     let match = c .before .before .before in
     let at-step = match .before .before in
-    planning-found _ _ _ _ _ (at-step .before .loop .inv) (sym (at-step .next .ensures) ∙ match .header .given .1) (c .plan-object .ensures)
+    let more = c .plan-object .ensures in
+    planning-found _ _ _ _ _ (at-step .before .loop .inv) (sym (at-step .next .ensures) ∙ match .header .given .1) (more .0) (more .1)
 
 enum-told : tie.Need-enum-told Inv-loop μ-loop
 enum-told c = search needs
@@ -72,9 +67,7 @@ enum-told-2 : tie.Need-enum-told-2 Inv-loop μ-loop
 enum-told-2 c = search needs
 
 conclude-requires : tie.Need-conclude-requires Inv-loop μ-loop
-conclude-requires c κs =
-    let at-step = c .before .before in
-    planning-short _ _ _ _ _ (at-step .before .loop .inv) (at-step .before .before .before .before .pre)
+conclude-requires c κs = c .before .before .before .loop .inv .small
 
 returns-2 : tie.Need-returns-2 Inv-loop μ-loop
 returns-2 c =

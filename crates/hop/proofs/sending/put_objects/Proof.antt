@@ -1,82 +1,104 @@
-use mathlib.Core.Path.{sym, _∙_}
+use Prim.Native.Nat.{ℕ, zero, suc, _+_, _-_, _*_, _^_, _≤_, _<_}
+use mathlib.Core.Path.{_≡_, refl, sym, ap, _∙_}
+use mathlib.Core.List.{List, [], _∷_, _++_, map}
+use mathlib.Core.Logic.{⊎-elim}
+use mathlib.Core.Bool.{Bool, true, false}
 use native.Mathlib.Omega.{arith}
+use native.Mathlib.Numerals.{add-one}
 use borrow.Author.Needs.{needs}
-use Rattle.wire.proofs.StepLaws.{left, step-inside}
-use Rattle.wire.proofs.PutLaws.{put-length}
-use Rattle.hop.proofs.SendLaws.{Written, written-first, written-found, written-room, written-end, written-cut}
+use borrow.Author.Tests.{lt-ltb, le-ltb, le-leb, lt-leb, eq-eqb, ne-eqb, not-true, not-false}
+use lib.ListN.{length, getD, set, take, drop, length-set, length-take, length-drop, replicate, length-append}
+use lib.Seq.{drop-cons, take-suc, take-suc-set, set-split, getD-set-same}
 use Rattle.hop.proofs.sending.put_objects.Statement.{statement}
 use Rattle.hop.proofs.sending.put_objects.Tie as tie
+use Rattle.hop.proofs.sending.put_objects.Reads as reads
+use Rattle.hop.proofs.sending.put_objects.Lts as lts
+use Rattle.hop.proofs.sending.flush.Reads as flush-reads
+use Rattle.hop.proofs.sending.put_packed.Reads as put-packed-reads
+use Rattle.wire.proofs.first.Reads as first-reads
+use Rattle.wire.proofs.next.Reads as next-reads
 
 abbrev Inv-loop : tie.InvT-loop
-Inv-loop out₀ own neighbour container cursor₀ at₀ out cursor at = Written own neighbour out₀ container cursor at out
+Inv-loop out₀ array₀ own neighbour container cursor₀ place₀ out array cursor place = ?
 
 abbrev μ-loop : tie.MeasureT-loop
-μ-loop out₀ own neighbour container cursor₀ at₀ out cursor at = left container cursor
+μ-loop out₀ array₀ own neighbour container cursor₀ place₀ out array cursor place = ?
 
+-- src/sending.rt:138:9
 first-requires : tie.Need-first-requires Inv-loop μ-loop
-first-requires c κs = search needs
+first-requires c κs = ?
 
+-- src/sending.rt:140:5
 loop-holds : tie.Need-loop-holds Inv-loop μ-loop
-loop-holds c = rw (c .first .ensures) (written-first _ _ _ _)
+loop-holds c = ?
 
+-- src/sending.rt:141:15
 next-requires : tie.Need-next-requires Inv-loop μ-loop
-next-requires c κs = search needs
+next-requires c κs = ?
 
+-- src/sending.rt:143:17
 enum-known-header : tie.Need-enum-known-header Inv-loop μ-loop
-enum-known-header c = search needs
+enum-known-header c = ?
 
-sub-put-object : tie.Need-sub-put-object Inv-loop μ-loop
-sub-put-object c =
-    let at-step = c .before .before .before .before in
-    step-inside _ _ (sym (at-step .next .ensures) ∙ c .before .before .header .given .1) .0
+-- src/sending.rt:155:21
+sub-put-packed : tie.Need-sub-put-packed Inv-loop μ-loop
+sub-put-packed c = ?
 
-part-put-object-start : tie.Need-part-put-object-start Inv-loop μ-loop
-part-put-object-start c =
-    let at-step = c .before .before .before .before in
-    let f = step-inside _ _ (sym (at-step .next .ensures) ∙ c .before .before .header .given .1) in
-    omega arith
+-- src/sending.rt:155:21
+part-put-packed-start : tie.Need-part-put-packed-start Inv-loop μ-loop
+part-put-packed-start c = ?
 
-part-put-object-end : tie.Need-part-put-object-end Inv-loop μ-loop
-part-put-object-end c =
-    let at-step = c .before .before .before .before in
-    step-inside _ _ (sym (at-step .next .ensures) ∙ c .before .before .header .given .1) .1 .0
+-- src/sending.rt:155:21
+part-put-packed-end : tie.Need-part-put-packed-end Inv-loop μ-loop
+part-put-packed-end c = ?
 
-put-object-requires : tie.Need-put-object-requires Inv-loop μ-loop
-put-object-requires c κs =
-    let at-step = c .before .before .before .before .before in
-    let entry = c .before .before .before .before .before .before .before .before .before .before in
-    let inv = at-step .before .loop .inv in
-    let found = sym (at-step .next .ensures) ∙ c .before .before .before .header .given .1 in
-    (entry .pre .0, (written-room _ _ _ _ _ _ _ inv found (entry .pre .1 .1) (entry .pre .1 .0), omega (arith, put-length (inv .put), entry .pre .1 .0)))
+-- src/sending.rt:148:17
+put-packed-requires : tie.Need-put-packed-requires Inv-loop μ-loop
+put-packed-requires c κs = ?
 
+-- src/sending.rt:140:5
 loop-less : tie.Need-loop-less Inv-loop μ-loop
-loop-less c =
-    let match = c .before .before .before .before .before .before in
-    step-inside _ _ (sym (match .before .before .next .ensures) ∙ match .header .given .1) .1 .1
+loop-less c = ?
 
+-- src/sending.rt:140:5
 loop-again : tie.Need-loop-again Inv-loop μ-loop
-loop-again c =
-    let match = c .before .before .before .before .before .before in
-    let at-step = match .before .before in
-    written-found _ _ _ _ _ _ _ (at-step .before .loop .inv) (sym (at-step .next .ensures) ∙ match .header .given .1) (c .before .before .put-object .ensures)
+loop-again c = ?
 
+-- src/sending.rt:160:17
 enum-told : tie.Need-enum-told Inv-loop μ-loop
-enum-told c = search needs
+enum-told c = ?
 
+-- src/sending.rt:160:17
 same-length : tie.Need-same-length Inv-loop μ-loop
-same-length c = put-length (c .before .before .before .loop .inv .put)
+same-length c = ?
 
-returns : tie.Need-returns Inv-loop μ-loop
-returns c = written-cut _ _ _ _ _ _ _ (c .before .before .before .loop .inv) (sym (c .before .before .next .ensures) ∙ c .enum-told .given .1)
-
-enum-told-2 : tie.Need-enum-told-2 Inv-loop μ-loop
-enum-told-2 c = search needs
-
+-- src/sending.rt:160:17
 same-length-2 : tie.Need-same-length-2 Inv-loop μ-loop
-same-length-2 c = put-length (c .before .before .before .loop .inv .put)
+same-length-2 c = ?
 
+-- src/sending.rt:160:17
+returns : tie.Need-returns Inv-loop μ-loop
+returns c = ?
+
+-- src/sending.rt:163:23
+enum-told-2 : tie.Need-enum-told-2 Inv-loop μ-loop
+enum-told-2 c = ?
+
+-- src/sending.rt:163:17
+flush-requires : tie.Need-flush-requires Inv-loop μ-loop
+flush-requires c κs = ?
+
+-- src/sending.rt:164:17
+same-length-3 : tie.Need-same-length-3 Inv-loop μ-loop
+same-length-3 c = ?
+
+-- src/sending.rt:164:17
+same-length-4 : tie.Need-same-length-4 Inv-loop μ-loop
+same-length-4 c = ?
+
+-- src/sending.rt:164:17
 returns-2 : tie.Need-returns-2 Inv-loop μ-loop
-returns-2 c = written-end _ _ _ _ _ _ _ (c .before .before .before .loop .inv) (sym (c .before .before .next .ensures) ∙ c .enum-told2 .given .1)
+returns-2 c = ?
 
 pub put-objects-spec : {M : Type 1} → statement M
 put-objects-spec =
@@ -88,15 +110,18 @@ put-objects-spec =
     loop-holds
     next-requires
     enum-known-header
-    sub-put-object
-    part-put-object-start
-    part-put-object-end
-    put-object-requires
+    sub-put-packed
+    part-put-packed-start
+    part-put-packed-end
+    put-packed-requires
     loop-less
     loop-again
     enum-told
     same-length
+    same-length-2
     returns
     enum-told-2
-    same-length-2
+    flush-requires
+    same-length-3
+    same-length-4
     returns-2)
