@@ -1,12 +1,12 @@
 /*
- * Gardhnosk: routing metrics for RPL meshes. A node hands over what it knows of up to 16 neighbours, each with the DAG Metric
- * Container (RFC 6551) received from it, and receives a verdict on each, its preferred parent, its rank (RFC 6552) and the
- * container to send on. For C99 and C++11 on x86-64; link libgardhnosk.a, and for gardhnosk_why and gardhnosk_examine, which tell why,
+ * Gardhnosk: routing metrics for RPL meshes. A node hands over what it knows of up to 16 neighbours, each with the run of RPL options
+ * received from it, in which stand its DAG Metric Containers (RFC 6551), and receives a verdict on each, its preferred parent, its
+ * rank (RFC 6552) and the containers to send on. For C99 and C++11 on x86-64; link libgardhnosk.a, and for gardhnosk_why and gardhnosk_examine, which tell why,
  * libgardhnosk_reasons.a.
  *
  * Every call answers, whatever the numbers and the bytes. Nothing is kept or allocated: calls from several threads need no lock.
  * While a call runs, nobody else may write to the bytes that it reads or to its output, no thread, no interrupt and no DMA: it
- * reads a container several times, and where that changes meanwhile it can write past an array on its stack. So copy a buffer
+ * reads a run several times, and where that changes meanwhile it can write past an array on its stack. So copy a buffer
  * that is still being received into, and lend the copy.
  * A pointer is valid for the size beside it; where that is 0 nothing is read or written, and it may be null. An output overlaps
  * no input. Stack, with what a call is passed, as measured: under 3 KB for gardhnosk_choose and gardhnosk_why, 2 KB for gardhnosk_meaning
@@ -33,16 +33,17 @@ enum {
     GARDHNOSK_REFUSAL_OWN = 1,      /* MinHopRankIncrease is 0, or the node's own type is above 3 */
     GARDHNOSK_REFUSAL_COUNT = 2,    /* more than 16 candidates */
     GARDHNOSK_REFUSAL_CURRENT = 3,  /* the current parent's position is not below the number of candidates */
-    GARDHNOSK_REFUSAL_OUTPUT = 4,   /* the output is shorter than 257 bytes */
+    GARDHNOSK_REFUSAL_OUTPUT = 4,   /* the output is shorter than 2056 bytes */
     GARDHNOSK_REFUSAL_EDITION = 5,  /* the edition is not 1 or 2 */
     GARDHNOSK_REFUSAL_POSITION = 6, /* the position is not below the number of candidates */
 
-    /* verdicts on a candidate: it can be the parent, or it is barred */
+    /* verdicts on a candidate: it can be the parent, or it is barred, by the first of 11, 12, 22, 23, 14 to 21
+     * that holds; 13 is given by gardhnosk_list alone */
     GARDHNOSK_UNBARRED = 10,     /* unbarred */
     GARDHNOSK_BAR_NUMBERS = 11,  /* Sp, Rf, Sr, LQL, type or colour out of range; in edition 2 also interface order or root preference */
-    GARDHNOSK_BAR_OUTSIDE = 12,  /* the container is not inside the lent bytes */
+    GARDHNOSK_BAR_OUTSIDE = 12,  /* the run of options is not inside the lent bytes */
     GARDHNOSK_BAR_FRAME = 13,    /* the container is under 2 bytes, does not start with 2, or its data length is wrong */
-    GARDHNOSK_BAR_OBJECT = 14,   /* an object's header or body runs past the end of the container */
+    GARDHNOSK_BAR_OBJECT = 14,   /* an object's header or body runs past the end of its container */
     GARDHNOSK_BAR_BODY = 15,     /* an object of known type has a body that its type does not allow, or a TLV overruns */
     GARDHNOSK_BAR_REPEAT = 16,   /* an object of known type stood before, as constraint or as metric both times */
     GARDHNOSK_BAR_RECORDED = 17, /* an NSA or HP metric is recorded, or an LQL or colour metric is not */
@@ -50,13 +51,15 @@ enum {
     GARDHNOSK_BAR_UNMET = 19,    /* a mandatory constraint is not met */
     GARDHNOSK_BAR_RANK = 20,     /* the advertised rank is 65535, or the resulting rank is 65535 or more */
     GARDHNOSK_BAR_INCREASE = 21, /* the resulting rank is above the lowest rank advertised plus DAGMaxRankIncrease */
+    GARDHNOSK_BAR_OPTION = 22,   /* an option is cut short at the end of the run */
+    GARDHNOSK_BAR_CONTAINERS = 23, /* a ninth container */
 
     /* leaf answers: the node joins as a leaf, and sends no container on */
     GARDHNOSK_LEAF_UNKNOWN = 31,   /* an aggregated metric of unknown type */
     GARDHNOSK_LEAF_AGGREGATE = 32, /* a metric is aggregated in a way that its type does not allow */
     GARDHNOSK_LEAF_VALUE = 33,     /* the local value of an aggregated metric is unknown, or energy came without an estimate */
     GARDHNOSK_LEAF_HOPS = 34,      /* the hop count is 255 already */
-    GARDHNOSK_LEAF_LENGTH = 35,    /* the container to send on would have more than 255 bytes of data */
+    GARDHNOSK_LEAF_LENGTH = 35,    /* an object to send on would have more than 255 bytes, or a ninth container would be needed */
     GARDHNOSK_LEAF_SUM = 36        /* a throughput or latency added up along the path would be above 4294967295 */
 };
 
@@ -65,7 +68,9 @@ enum {
     GARDHNOSK_NO_PARENT = 255,    /* in place of a parent's position */
     GARDHNOSK_NO_RANK = 65535,    /* in place of a rank: the infinite rank */
     GARDHNOSK_NO_PLACE = 65535,   /* in place of an object's index */
-    GARDHNOSK_OUTPUT_ROOM = 257,  /* bytes that hold any container */
+    GARDHNOSK_CONTAINERS = 8,     /* the most containers of a run, and of what is sent on */
+    GARDHNOSK_OUTPUT_ROOM = 2056, /* bytes that hold any containers to send on: 8 times 2 + 255 */
+    GARDHNOSK_KEPT_ROOM = 2059,   /* bytes that hold what is kept of any run that is fed in parts */
     GARDHNOSK_TEXT_ROOM = 1100,   /* bytes that hold the text of any container */
     GARDHNOSK_MEANING_ROOM = 100  /* bytes that hold the words for any number */
 };
@@ -148,10 +153,16 @@ typedef struct {
     uint8_t preference;  /* its root's preference (DODAGPreference), 0 to 7, 7 best, in edition 2 */
 } gardhnosk_neighbour;
 
-/* A candidate: a neighbour, and where its container stands in the lent bytes. Containers may overlap. */
+/*
+ * A candidate: a neighbour, and where its run of RPL options stands in the lent bytes: all options of a DIO behind its base, as received, or
+ * any part of them that is whole options; a single container is such a run. Pad1 (a single byte 0) and PadN (type 1) are skipped, other
+ * options stepped over, and the objects of all containers (type 2), at most 8, are joined in order: what is said of a container's objects
+ * holds of all of them, and indexes count them through. A run without a container, or of no bytes, is as one empty container. Runs may
+ * overlap.
+ */
 typedef struct {
     gardhnosk_neighbour neighbour;
-    size_t start; /* the index of the container's first byte */
+    size_t start; /* the index of the run's first byte */
     size_t size;  /* its length in bytes */
 } gardhnosk_candidate;
 
@@ -173,16 +184,38 @@ typedef struct {
     uint16_t bits;                            /* bit i is 1 where the candidate at position i is unbarred */
     uint8_t count;                            /* how many are unbarred */
     uint8_t leaf;                             /* GARDHNOSK_NONE, or a leaf answer */
-    uint16_t size;                            /* the length of the container in the output; 0: none */
+    uint16_t size;                            /* the length of the containers in the output, all of them; 0: none */
 } gardhnosk_answer;
 
 /*
- * Chooses a preferred parent among the first count candidates, and writes the container to send on to the start of out, of at
- * least GARDHNOSK_OUTPUT_ROOM bytes. lent holds the candidates' containers. The bytes of out behind answer.size stay as they
- * were; where answer.size is 0, all do.
+ * Chooses a preferred parent among the first count candidates, and writes what to send on to the start of out, of at least
+ * GARDHNOSK_OUTPUT_ROOM bytes: one container, and a further one only where the next object would make it pass 255 bytes of data. lent holds
+ * the candidates' runs. The bytes of out behind answer.size stay as they were; where answer.size is 0, all do.
  */
 gardhnosk_answer gardhnosk_choose(gardhnosk_own own, gardhnosk_candidates candidates, size_t count, const uint8_t *lent,
                                   size_t lent_size, uint8_t *out, size_t out_size);
+
+/*
+ * What was fed of a run so far. All zeros before the first part; any other values are answered too. Of the run at most GARDHNOSK_KEPT_ROOM
+ * bytes are kept, its containers, which a call reads as all that was fed: give the buffer's index in the lent bytes as a candidate's start,
+ * and size as its size, whenever you like, between two parts too.
+ */
+typedef struct {
+    uint16_t size;   /* how many bytes are kept, from the start of the buffer on */
+    uint8_t phase;   /* where the run stands, or GARDHNOSK_FED_SHORT; the fields below are for gardhnosk_feed alone */
+    uint8_t keep;
+    uint8_t missing;
+    uint8_t count;
+} gardhnosk_fed;
+
+/* phase after a part that came with a buffer under GARDHNOSK_KEPT_ROOM bytes: it stays so, and nothing is stored, until you start anew */
+#define GARDHNOSK_FED_SHORT 255
+
+/*
+ * Takes the next part of a run, which may be split anywhere, into kept, the same buffer for all parts of the run. Answers the state for the
+ * next part. Only where a run comes in parts: one that lies in memory whole is judged there.
+ */
+gardhnosk_fed gardhnosk_feed(gardhnosk_fed state, const uint8_t *part, size_t part_size, uint8_t *kept, size_t kept_size);
 
 /* Why a candidate is the parent, or is not. */
 enum {
@@ -222,8 +255,8 @@ gardhnosk_reason gardhnosk_why(gardhnosk_own own, gardhnosk_candidates candidate
                                size_t lent_size, size_t position);
 
 /*
- * In what way a candidate that is barred by 11 to 14 or 19 falls short, and what which, asked and found of gardhnosk_finding are then. A
- * number that is not named is 0. Where several hold of what bars it, for 19 of the object that bars, the first of this order is told.
+ * In what way a candidate that is barred by 11, 12, 14, 19, 22 or 23 falls short, and what which, asked and found of gardhnosk_finding are
+ * then. 10 to 12 were bar 13's, and are given no more. A number that is not named is 0. Where several hold of what bars it, for 19 of the object that bars, the first of this order is told.
  */
 enum {
     GARDHNOSK_WAY_NONE = 0, /* it is unbarred, or barred by another number: nothing is told */
@@ -238,14 +271,10 @@ enum {
     GARDHNOSK_WAY_ORDER = 7,
     GARDHNOSK_WAY_PREFERENCE = 8,
 
-    GARDHNOSK_WAY_OUTSIDE = 9, /* 12: a container of asked bytes that starts at index which; found bytes are lent */
+    GARDHNOSK_WAY_OUTSIDE = 9, /* 12: a run of asked bytes that starts at index which; found bytes are lent */
 
-    GARDHNOSK_WAY_SHORT = 10,      /* 13: asked bytes are the least, 2; it has found */
-    GARDHNOSK_WAY_FIRST_BYTE = 11, /* 13: byte 0 is to be asked, 2; it is found */
-    GARDHNOSK_WAY_DATA = 12,       /* 13: byte 1 says that asked bytes of data follow; found follow */
-
-    GARDHNOSK_WAY_HEADER = 13, /* 14: of the header of the object with index which, of asked bytes, 4, found are there */
-    GARDHNOSK_WAY_BODY = 14,   /* 14: of the body of the object with index which, by its header asked bytes, found are there */
+    GARDHNOSK_WAY_HEADER = 13, /* 14: of the header of the object with index which, of asked bytes, 4, found are in its container */
+    GARDHNOSK_WAY_BODY = 14,   /* 14: of the body of the object with index which, by its header asked bytes, found are in its container */
 
     GARDHNOSK_WAY_AGGREGATOR = 15, /* 19, NSA: an aggregating neighbour is asked for; this one does not aggregate */
     GARDHNOSK_WAY_OVERLOADED = 16, /* 19, NSA: one that is not overloaded is asked for; this one is overloaded */
@@ -257,8 +286,8 @@ enum {
     GARDHNOSK_WAY_BARRED_ENERGY = 21,  /* 19, NE, I=0: no nodes of type which with energy below asked; this one has found */
     GARDHNOSK_WAY_BARRED_UNKNOWN = 22, /* 19, NE, I=0: no nodes of type which with energy below asked; this one's is not known */
 
-    GARDHNOSK_WAY_HOPS = 23,         /* 19, HP: fewer hops than asked; the container's HP metric counts found */
-    GARDHNOSK_WAY_UNKNOWN_HOPS = 24, /* 19, HP: fewer hops than asked; the container has no HP metric */
+    GARDHNOSK_WAY_HOPS = 23,         /* 19, HP: fewer hops than asked; the HP metric counts found */
+    GARDHNOSK_WAY_UNKNOWN_HOPS = 24, /* 19, HP: fewer hops than asked; there is no HP metric */
 
     GARDHNOSK_WAY_THROUGHPUT = 25,         /* 19: asked bytes per second at least; the link has found */
     GARDHNOSK_WAY_UNKNOWN_THROUGHPUT = 26, /* 19: asked bytes per second at least; the link's throughput is not known */
@@ -274,20 +303,24 @@ enum {
     GARDHNOSK_WAY_UNKNOWN_QUALITY = 34, /* 19, LQL: a level from 1 to asked; the link's is not known */
 
     GARDHNOSK_WAY_LACKS_COLOUR = 35, /* 19, colour, I=1: links that have colour asked; this one has found */
-    GARDHNOSK_WAY_HAS_COLOUR = 36    /* 19, colour, I=0: links that do not have colour asked; this one has found */
+    GARDHNOSK_WAY_HAS_COLOUR = 36,   /* 19, colour, I=0: links that do not have colour asked; this one has found */
+
+    GARDHNOSK_WAY_OPTION = 37,      /* 22: of the type and length of the option at byte which of the run, asked bytes, 2, found, 1, are there */
+    GARDHNOSK_WAY_OPTION_DATA = 38, /* 22: of the data of the option at byte which of the run, by its length asked bytes, found are there */
+    GARDHNOSK_WAY_CONTAINERS = 39   /* 23: asked containers, 8, are the most; there are found */
 };
 
 /* The answer of gardhnosk_examine. */
 typedef struct {
-    uint8_t way; /* GARDHNOSK_WAY_NONE to GARDHNOSK_WAY_HAS_COLOUR */
+    uint8_t way; /* GARDHNOSK_WAY_NONE to GARDHNOSK_WAY_CONTAINERS */
     uint64_t which;
     uint64_t asked;
     uint64_t found;
 } gardhnosk_finding;
 
 /*
- * Tells what was asked of a candidate that is barred by 11 to 14 or 19, and what was found: for 19, of the object that bars it, which
- * gardhnosk_why names. lent holds the candidate's container, as for gardhnosk_choose. Nothing is refused: the own numbers may be any.
+ * Tells what was asked of a candidate that is barred by 11, 12, 14, 19, 22 or 23, and what was found: for 19, of the object that bars it,
+ * which gardhnosk_why names. lent holds the candidate's run, as for gardhnosk_choose. Nothing is refused: the own numbers may be any.
  */
 gardhnosk_finding gardhnosk_examine(gardhnosk_own own, gardhnosk_candidate candidate, const uint8_t *lent, size_t lent_size);
 

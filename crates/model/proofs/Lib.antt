@@ -7,6 +7,7 @@ pub mod ChoiceLaws
 pub mod ChoosingLaws
 pub mod Refusals
 pub mod Readings
+pub mod RunReadings
 pub mod Bars
 pub mod LeafLaws
 pub mod VerdictLaws
@@ -29,6 +30,7 @@ pub mod Unknown
 pub mod SecondCall
 pub mod TlvLaws
 pub mod RoundTrip
+pub mod Runs
 pub mod ShapeLaws
 pub mod ReadBack
 pub mod SumLaws

@@ -70,7 +70,7 @@ unfoldable filled : Fill → List Object → Fill
 filled s [] = s
 filled s (o ∷ os) = filled (add s (length (bytesOf o))) os
 
-join-one : (es : List Object) (o : Object) → length (join (es ++ (o ∷ []))) ≡ length (join es) + length (bytesOf o)
+pub join-one : (es : List Object) (o : Object) → length (join (es ++ (o ∷ []))) ≡ length (join es) + length (bytesOf o)
 unfolding join
 join-one es o = rw (join-append es (o ∷ []), append-nil (o .body), length-append (join es) (bytesOf o))
 
@@ -224,7 +224,7 @@ joined-cut os =
 -- ---- the bytes of what is written
 
 -- the containers' data as options
-data-options : (gs : List (List Object)) → map containerOption gs ≡ map (option 1) (map join gs)
+pub data-options : (gs : List (List Object)) → map containerOption gs ≡ map (option 1) (map join gs)
 data-options [] = refl
 data-options (g ∷ gs) = rw (data-options gs)
 

@@ -13,6 +13,8 @@ use Rattle.model.specs.RoundTrip.{Bytes, RoundTrip}
 use Rattle.model.proofs.BoolLaws.{neither}
 use Rattle.model.proofs.ObjectLaws.{split-join, join-split}
 use Rattle.model.proofs.TlvLaws.{tlvs}
+use Rattle.model.proofs.RunLaws.{options-join, join-options}
+use Rattle.model.proofs.PackLaws.{packed-objects}
 use Rattle.model.proofs.ReadingLaws.{reading-objects}
 
 pub length-bigEndian : (w v : ℕ) → length (bigEndian w v) ≡ w
@@ -73,6 +75,9 @@ round-trip = record {
   split-join = split-join;
   join-split = join-split;
   container-reading = λ bs os e. sym (reading-objects bs os e .whole);
+  options-join = options-join;
+  join-options = join-options;
+  packed-objects = packed-objects;
   number-bytes = number-bigEndian;
   length-bytes = length-bigEndian;
   bytes-number = bytes-number;

@@ -10,6 +10,8 @@ use lib.ListN.{length}
 use Rattle.model.specs.Number.{number, bigEndian, anyOf}
 use Rattle.model.specs.Object.{Object, split, join, container}
 use Rattle.model.specs.Reading.{tlvsFit, wellFormed, reading}
+use Rattle.model.specs.Run.{RplOption, joinOptions, options, runObjects}
+use Rattle.model.specs.Pack.{packed}
 
 -- a TLV; its length byte is the value's length
 pub record Tlv : Type 0 where
@@ -31,6 +33,10 @@ pub record RoundTrip : Type 0 where
   pub join-split : (bs : List ℕ) (os : List Object) → split bs ≡ some os → join os ≡ bs
   -- a well-formed container is the container of its objects
   pub container-reading : (bs : List ℕ) (os : List Object) → reading bs ≡ wellFormed os → container os ≡ bs
+  -- options end to end; objects packed into containers
+  pub options-join : (os : List RplOption) → options (joinOptions os) ≡ some os
+  pub join-options : (bs : List ℕ) (os : List RplOption) → options bs ≡ some os → joinOptions os ≡ bs
+  pub packed-objects : (os : List Object) → runObjects (packed os) ≡ some os
   pub number-bytes : (width v : ℕ) → v < 256 ^ width → number (bigEndian width v) ≡ v
   pub length-bytes : (width v : ℕ) → length (bigEndian width v) ≡ width
   pub bytes-number : (bs : List ℕ) → Bytes bs → bigEndian (length bs) (number bs) ≡ bs
