@@ -3,6 +3,8 @@ pub mod RowLaws
 pub mod NumberLaws
 pub mod StepLaws
 pub mod WalkLaws
+pub mod EntryLaws
+pub mod StartLaws
 pub mod TlvLaws
 pub mod BodyLaws
 pub mod BarLaws
