@@ -15,7 +15,7 @@ use Rattle.model.specs.declared.Verdict.the-variants.{Unbarred}
 use Rattle.model.specs.declared.Choice.the-variants.{Parent}
 use Rattle.model.specs.Object.{Object}
 use Rattle.model.specs.Reading.{wellFormed, reading}
-use Rattle.model.specs.Verdict.{containerOf, verdict, isUnbarred}
+use Rattle.model.specs.Verdict.{runOf, verdict, isUnbarred}
 use Rattle.model.specs.Choice.{currentOf, outgoingRead, outgoing, verdicts, choiceOf}
 use Rattle.model.proofs.ListLaws.{at-below, map-at, getD-at}
 use Rattle.model.proofs.ChoiceLaws.{choose-unbarred}
@@ -51,10 +51,10 @@ module _ (own : Own) (cs : List Candidate) (lent : List ℕ) (n : ℕ) (d : Cand
 
   -- what is sent on for it
   pub parent-sends : (room : ℕ) → own .nodetype ≤ 3 → 257 ≤ room → getD lent (getD cs p d .start + 1) 0 ≤ 255
-      → sends own (getD cs p d .neighbour) (containerOf lent (getD cs p d)) room ≡ outgoing own (take n cs) lent (Parent p r)
+      → sends own (getD cs p d .neighbour) (runOf lent (getD cs p d)) room ≡ outgoing own (take n cs) lent (Parent p r)
   unfolding outgoing
   parent-sends room t m b =
       let x = parent-at in
       let a = x .admits in
       let (i, j, q, k) = in-range own (getD cs p d .neighbour) (a .inRange) in
-      rw (x .stands) (sends-read own (getD cs p d .neighbour) (containerOf lent (getD cs p d)) room (a .objects) (a .read) t q k (container-short lent (getD cs p d) (a .objects) (a .read) b) m)
+      rw (x .stands) (sends-read own (getD cs p d .neighbour) (runOf lent (getD cs p d)) room (a .objects) (a .read) t q k (container-short lent (getD cs p d) (a .objects) (a .read) b) m)

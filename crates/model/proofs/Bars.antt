@@ -15,15 +15,17 @@ use Rattle.model.specs.declared.Verdict.{Verdict}
 use Rattle.model.specs.declared.Verdict.the-variants.{Unbarred, Barred}
 use Rattle.model.specs.Number.{anyOf, Case, _when_, firstCase, firstOf, indexOf}
 use Rattle.model.specs.Object.{Object, Standing, standings}
-use Rattle.model.specs.Reading.{noPlace, misframed, runsPast, malformed, repeated, misused, Reading, refused, wellFormed, reading}
+use Rattle.model.specs.Reading.{noPlace, malformed, repeated, misused, Reading, refused, wellFormed}
+use Rattle.model.specs.Run.{optionCut, ninthContainer, objectCut, readRun}
 use Rattle.model.specs.Constraint.{summary, unknownMandatory, unmet, constraintCases, constraintBar}
 use Rattle.model.specs.Rank.{rankTooHigh, aboveLowest}
-use Rattle.model.specs.Verdict.{offerOf, badNumbers, containerOf, outside, rankCases, rankBar, judgeRank, judgeObjects, judgeReading, verdict, numberOf}
+use Rattle.model.specs.Verdict.{offerOf, badNumbers, runOf, outside, rankCases, rankBar, judgeRank, judgeObjects, judgeReading, verdict, numberOf}
 use Rattle.model.proofs.BoolLaws.{neither}
 use Rattle.model.proofs.NumberLaws.{none-both, none-parts, exact, exact-none, isGiven, given-case, given-none, firstOf-all, given-firstOf, first-with}
 use Rattle.model.specs.Conditions.{someHas, objectsIn, objectBars, constraintBars, barsTo17, barsTo19}
-use Rattle.model.specs.Exact.{NoneOf, FirstToHold, BarAt, ConstraintAt, ReadingAt, VerdictExact, VerdictsExact, BarExact}
-use Rattle.model.proofs.Readings.{Numbers, nothing, one, two, three, two-cases, ReadView, is13, is14, is15, is16, is17, whole, read-view, at-13, at-14, reading-exact}
+use Rattle.model.specs.Exact.{NoneOf, FirstToHold, BarAt, ConstraintAt, RunAt, VerdictExact, VerdictsExact, BarExact}
+use Rattle.model.proofs.Readings.{Numbers, nothing, one, two, three, two-cases}
+use Rattle.model.proofs.RunReadings.{ReadView, is22, is23, is14, is15, is16, is17, whole, read-view, at-22, at-23, at-14, run-exact}
 
 -- ---- a verdict as a chain of stages
 
@@ -73,13 +75,13 @@ module _ (own : Own) (c : Neighbour) where
 
 -- ---- which stage a number belongs to
 
--- 13 for 13 to 17, 18 for 18 and 19, 20 for 20 and 21; any other number itself
+-- 14 for 22, 23 and 14 to 17, 18 for 18 and 19, 20 for 20 and 21; any other number itself
 abbrev stageOf : ℕ → ℕ
 stageOf n =
-    cond (anyOf (eqb n) (13 ∷ 14 ∷ 15 ∷ 16 ∷ 17 ∷ [])) 13 (cond (anyOf (eqb n) (18 ∷ 19 ∷ [])) 18 (cond (anyOf (eqb n) (20 ∷ 21 ∷ [])) 20 n))
+    cond (anyOf (eqb n) (22 ∷ 23 ∷ 14 ∷ 15 ∷ 16 ∷ 17 ∷ [])) 14 (cond (anyOf (eqb n) (18 ∷ 19 ∷ [])) 18 (cond (anyOf (eqb n) (20 ∷ 21 ∷ [])) 20 n))
 
 abbrev casesOf : (a b r k q : Bool) → List Case
-casesOf a b r k q = 11 when a ∷ 12 when b ∷ 13 when r ∷ 18 when k ∷ 20 when q ∷ 10 when true ∷ []
+casesOf a b r k q = 11 when a ∷ 12 when b ∷ 14 when r ∷ 18 when k ∷ 20 when q ∷ 10 when true ∷ []
 
 -- the number of 18 or 19 in what was read
 abbrev constraintNumber : Neighbour → Reading → ℕ
@@ -139,7 +141,8 @@ module _ (own : Own) (c : Neighbour) where
 -- the number of a verdict, by the stage that decided it
 reading-number : (own : Own) (c : Neighbour) (x : Reading) → ReadView x
     → stageOf (numberOf (judgeReading own c x)) ≡ firstCase (casesOf false false (isRefused x) (isGiven (constraintNumber c x)) (isGiven (rankBar own c)))
-reading-number own c x (is13 p) = refl
+reading-number own c x (is22 p) = refl
+reading-number own c x (is23 p) = refl
 reading-number own c x (is14 p) = refl
 reading-number own c x (is15 p) = refl
 reading-number own c x (is16 p) = refl
@@ -161,7 +164,7 @@ module _ (own : Own) (lent : List ℕ) (c : Candidate) where
   n = c .neighbour
 
   abbrev bs : List ℕ
-  bs = containerOf lent c
+  bs = runOf lent c
 
   abbrev os : List Object
   os = objectsIn bs
@@ -169,31 +172,31 @@ module _ (own : Own) (lent : List ℕ) (c : Candidate) where
   abbrev sum : Summary
   sum = summary os
 
-  verdict-stages : verdict own lent c ≡ bars11and12 (badNumbers own n) (outside lent c) (judgeReading own n (reading bs))
+  verdict-stages : verdict own lent c ≡ bars11and12 (badNumbers own n) (outside lent c) (judgeReading own n (readRun bs))
   unfolding verdict
   verdict-stages = refl
 
   abbrev cases : List Case
-  cases = casesOf (badNumbers own n) (outside lent c) (isRefused (reading bs)) (isGiven (constraintNumber n (reading bs))) (isGiven (rankBar own n))
+  cases = casesOf (badNumbers own n) (outside lent c) (isRefused (readRun bs)) (isGiven (constraintNumber n (readRun bs))) (isGiven (rankBar own n))
 
   decided : stageOf (numberOf (verdict own lent c)) ≡ firstCase cases
-  decided = ap (λ v. stageOf (numberOf v)) verdict-stages ∙ stage-number own n (badNumbers own n) (outside lent c) (reading bs) (read-view bs)
+  decided = ap (λ v. stageOf (numberOf v)) verdict-stages ∙ stage-number own n (badNumbers own n) (outside lent c) (readRun bs) (read-view bs)
 
   -- a verdict's number gives the case that decided it
   by-case : (v : Verdict) (g : ℕ) → stageOf (numberOf v) ≡ g → verdict own lent c ≡ v → firstCase cases ≡ g
   by-case v g h e = sym decided ∙ ap (λ w. stageOf (numberOf w)) e ∙ h
 
   -- what is left of the verdict past bar 12, past 17 and past 19
-  past12 : NoneOf (badNumbers own n ∷ outside lent c ∷ []) → verdict own lent c ≡ judgeReading own n (reading bs)
-  past12 h = verdict-stages ∙ past-12 (badNumbers own n) (outside lent c) (judgeReading own n (reading bs)) h
+  past12 : NoneOf (badNumbers own n ∷ outside lent c ∷ []) → verdict own lent c ≡ judgeReading own n (readRun bs)
+  past12 h = verdict-stages ∙ past-12 (badNumbers own n) (outside lent c) (judgeReading own n (readRun bs)) h
 
   abbrev read17 : List Bool
-  read17 = misframed bs ∷ runsPast bs ∷ someHas objectBars (standings [] os) ∷ []
+  read17 = optionCut bs ∷ ninthContainer bs ∷ objectCut bs ∷ someHas objectBars (standings [] os) ∷ []
 
   past17 : NoneOf (barsTo17 own lent c) → verdict own lent c ≡ afterConstraints own n (firstOf (constraintBar n sum) os) (indexOf (constraintBar n sum) os) (rankBar own n)
   past17 h =
       let (p, q) = none-parts (badNumbers own n ∷ outside lent c ∷ []) read17 h in
-      past12 p ∙ rw (reading-exact bs .well-formed os .1 (q, refl)) (constraints-stage own n (firstOf (constraintBar n sum) os) (indexOf (constraintBar n sum) os))
+      past12 p ∙ rw (run-exact bs .well-formed os .1 (q, refl)) (constraints-stage own n (firstOf (constraintBar n sum) os) (indexOf (constraintBar n sum) os))
 
   constraints-given : isGiven (firstOf (constraintBar n sum) os) ≡ someHas (constraintBars n sum) os
   constraints-given = given-firstOf (constraintBar n sum) (λ o. anyOf (λ t. t o) (constraintBars n sum)) (constraint-given n sum) os
@@ -205,44 +208,50 @@ module _ (own : Own) (lent : List ℕ) (c : Candidate) where
       past17 p ∙ rw z
 
   -- a container that is not refused is read as its objects
-  read-objects : NoneOf (badNumbers own n ∷ outside lent c ∷ isRefused (reading bs) ∷ []) → NoneOf (barsTo17 own lent c) × (reading bs ≡ wellFormed os)
+  read-objects : NoneOf (badNumbers own n ∷ outside lent c ∷ isRefused (readRun bs) ∷ []) → NoneOf (barsTo17 own lent c) × (readRun bs ≡ wellFormed os)
   read-objects h =
-      let (p, q) = none-parts (badNumbers own n ∷ outside lent c ∷ []) (isRefused (reading bs) ∷ []) h in
-      go (reading bs) refl p (neither (isRefused (reading bs)) false q .0)
+      let (p, q) = none-parts (badNumbers own n ∷ outside lent c ∷ []) (isRefused (readRun bs) ∷ []) h in
+      go (readRun bs) refl p (neither (isRefused (readRun bs)) false q .0)
     where
-      go : (x : Reading) → reading bs ≡ x → NoneOf (badNumbers own n ∷ outside lent c ∷ []) → isRefused x ≡ false → NoneOf (barsTo17 own lent c) × (reading bs ≡ wellFormed os)
+      go : (x : Reading) → readRun bs ≡ x → NoneOf (badNumbers own n ∷ outside lent c ∷ []) → isRefused x ≡ false → NoneOf (barsTo17 own lent c) × (readRun bs ≡ wellFormed os)
       go (refused m i) e p g = absurd (true≢false g)
       go (wellFormed ts) e p g =
-          let (f, s) = reading-exact bs .well-formed ts .0 e in
+          let (f, s) = run-exact bs .well-formed ts .0 e in
           (none-both (badNumbers own n ∷ outside lent c ∷ []) read17 p f, e ∙ ap wellFormed (sym s))
 
-  -- bars 13 to 17 are those of the reading
-  read-bar : (m place : ℕ) → stageOf m ≡ 13 → (verdict own lent c ≡ Barred m place) ↔ (NoneOf (badNumbers own n ∷ outside lent c ∷ []) × (reading bs ≡ refused m place))
+  -- bars 22, 23 and 14 to 17 are those of the reading
+  read-bar : (m place : ℕ) → stageOf m ≡ 14 → (verdict own lent c ≡ Barred m place) ↔ (NoneOf (badNumbers own n ∷ outside lent c ∷ []) × (readRun bs ≡ refused m place))
   read-bar m place g = (
-    λ e. let f = exact cases 2 refl .0 (by-case (Barred m place) 13 g e) in
-        (f .0, reading-barred own n (reading bs) m place (f .1) (sym (past12 (f .0)) ∙ e)),
+    λ e. let f = exact cases 2 refl .0 (by-case (Barred m place) 14 g e) in
+        (f .0, reading-barred own n (readRun bs) m place (f .1) (sym (past12 (f .0)) ∙ e)),
     λ w. past12 (w .0) ∙ rw (w .1),
   )
 
-  -- bars 13 and 14, whatever the place
-  first-13 : (place : ℕ) → verdict own lent c ≡ Barred 13 place → FirstToHold (badNumbers own n ∷ outside lent c ∷ []) (misframed bs)
-  first-13 place e = let (x, y) = read-bar 13 place refl .0 e in (x, at-13 bs place y .1)
+  -- bars 22, 23 and 14, whatever the place
+  first-22 : (place : ℕ) → verdict own lent c ≡ Barred 22 place → FirstToHold (badNumbers own n ∷ outside lent c ∷ []) (optionCut bs)
+  first-22 place e = let (x, y) = read-bar 22 place refl .0 e in (x, at-22 bs place y .1)
 
-  first-14 : (place : ℕ) → verdict own lent c ≡ Barred 14 place → FirstToHold (badNumbers own n ∷ outside lent c ∷ misframed bs ∷ []) (runsPast bs)
+  first-23 : (place : ℕ) → verdict own lent c ≡ Barred 23 place → FirstToHold (badNumbers own n ∷ outside lent c ∷ optionCut bs ∷ []) (ninthContainer bs)
+  first-23 place e =
+      let (x, y) = read-bar 23 place refl .0 e in
+      let f = at-23 bs place y in
+      (none-both (badNumbers own n ∷ outside lent c ∷ []) (optionCut bs ∷ []) x (f .0), f .1)
+
+  first-14 : (place : ℕ) → verdict own lent c ≡ Barred 14 place → FirstToHold (badNumbers own n ∷ outside lent c ∷ optionCut bs ∷ ninthContainer bs ∷ []) (objectCut bs)
   first-14 place e =
       let (x, y) = read-bar 14 place refl .0 e in
       let f = at-14 bs place y in
-      (none-both (badNumbers own n ∷ outside lent c ∷ []) (misframed bs ∷ []) x (f .0), f .1)
+      (none-both (badNumbers own n ∷ outside lent c ∷ []) (optionCut bs ∷ ninthContainer bs ∷ []) x (f .0), f .1)
 
   -- 15 to 17, at an object
-  bar-at : (m : ℕ) (lower : List (Standing → Bool)) (bar : Standing → Bool) → stageOf m ≡ 13
-      → ((place : ℕ) → (reading bs ≡ refused m place) ↔ ReadingAt bs lower bar place)
+  bar-at : (m : ℕ) (lower : List (Standing → Bool)) (bar : Standing → Bool) → stageOf m ≡ 14
+      → ((place : ℕ) → (readRun bs ≡ refused m place) ↔ RunAt bs lower bar place)
       → (place : ℕ) → (verdict own lent c ≡ Barred m place) ↔ BarAt own lent c lower bar place
   bar-at m lower bar g read place = (
     λ e. let (x, y) = read-bar m place g .0 e in
         let (f, w) = read place .0 y in
-        (none-both (badNumbers own n ∷ outside lent c ∷ []) (misframed bs ∷ runsPast bs ∷ []) x f, w),
-    λ w. let (x, y) = none-parts (badNumbers own n ∷ outside lent c ∷ []) (misframed bs ∷ runsPast bs ∷ []) (w .0) in
+        (none-both (badNumbers own n ∷ outside lent c ∷ []) (optionCut bs ∷ ninthContainer bs ∷ objectCut bs ∷ []) x f, w),
+    λ w. let (x, y) = none-parts (badNumbers own n ∷ outside lent c ∷ []) (optionCut bs ∷ ninthContainer bs ∷ objectCut bs ∷ []) (w .0) in
         read-bar m place g .1 (x, read place .1 (y, w .1)),
   )
 
@@ -259,11 +268,11 @@ module _ (own : Own) (lent : List ℕ) (c : Candidate) where
       )
 
   -- past 18 and 19: nothing of 11 to 19 holds
-  read-constraints : NoneOf (badNumbers own n ∷ outside lent c ∷ isRefused (reading bs) ∷ isGiven (constraintNumber n (reading bs)) ∷ []) → NoneOf (barsTo19 own lent c)
+  read-constraints : NoneOf (badNumbers own n ∷ outside lent c ∷ isRefused (readRun bs) ∷ isGiven (constraintNumber n (readRun bs)) ∷ []) → NoneOf (barsTo19 own lent c)
   read-constraints h =
-      let (p, q) = none-parts (badNumbers own n ∷ outside lent c ∷ isRefused (reading bs) ∷ []) (isGiven (constraintNumber n (reading bs)) ∷ []) h in
+      let (p, q) = none-parts (badNumbers own n ∷ outside lent c ∷ isRefused (readRun bs) ∷ []) (isGiven (constraintNumber n (readRun bs)) ∷ []) h in
       let (x, y) = read-objects p in
-      let k : isGiven (firstOf (constraintBar n sum) os) ≡ false = rw y at (neither (isGiven (constraintNumber n (reading bs))) false q .0) in
+      let k : isGiven (firstOf (constraintBar n sum) os) ≡ false = rw y at (neither (isGiven (constraintNumber n (readRun bs))) false q .0) in
       none-both (barsTo17 own lent c) (someHas (constraintBars n sum) os ∷ []) x (rw (← constraints-given, k))
 
   -- the number of bar 20 or 21 that was given
@@ -277,7 +286,7 @@ module _ (own : Own) (lent : List ℕ) (c : Candidate) where
   rank-free : firstCase cases ≡ 10 → NoneOf (barsTo19 own lent c) × (rankBar own n ≡ 0)
   rank-free e =
       let f = exact cases 5 refl .0 e in
-      let (x, y) = none-parts (badNumbers own n ∷ outside lent c ∷ isRefused (reading bs) ∷ isGiven (constraintNumber n (reading bs)) ∷ []) (isGiven (rankBar own n) ∷ []) (f .0) in
+      let (x, y) = none-parts (badNumbers own n ∷ outside lent c ∷ isRefused (readRun bs) ∷ isGiven (constraintNumber n (readRun bs)) ∷ []) (isGiven (rankBar own n) ∷ []) (f .0) in
       (read-constraints x, given-none (rankBar own n) (neither (isGiven (rankBar own n)) false y .0))
 
   unbarred-is : (q : ℕ) (r : Offer) → q ≡ 0 → judgeRank own n q ≡ Unbarred r → r ≡ offerOf own n
@@ -294,28 +303,33 @@ module _ (own : Own) (lent : List ℕ) (c : Candidate) where
 
   pub verdict-exact : VerdictExact own lent c (verdict own lent c)
   verdict-exact =
-      let r = reading-exact bs in
+      let r = run-exact bs in
       record {
         verdict-11 = (
           λ e. exact cases 0 refl .0 (by-case (Barred 11 noPlace) 11 refl e),
-          λ f. verdict-stages ∙ stage-11 (badNumbers own n) (outside lent c) (judgeReading own n (reading bs)) f,
+          λ f. verdict-stages ∙ stage-11 (badNumbers own n) (outside lent c) (judgeReading own n (readRun bs)) f,
         );
         verdict-12 = (
           λ e. exact cases 1 refl .0 (by-case (Barred 12 noPlace) 12 refl e),
-          λ f. verdict-stages ∙ stage-12 (badNumbers own n) (outside lent c) (judgeReading own n (reading bs)) f,
+          λ f. verdict-stages ∙ stage-12 (badNumbers own n) (outside lent c) (judgeReading own n (readRun bs)) f,
         );
-        verdict-13 = (
-          first-13 noPlace,
-          λ f. read-bar 13 noPlace refl .1 (f .0, r .reading-13 .1 (refl, f .1)),
+        verdict-22 = (
+          first-22 noPlace,
+          λ f. read-bar 22 noPlace refl .1 (f .0, r .run-22 .1 (refl, f .1)),
+        );
+        verdict-23 = (
+          first-23 noPlace,
+          λ f. let (x, y) = none-parts (badNumbers own n ∷ outside lent c ∷ []) (optionCut bs ∷ []) (f .0) in
+              read-bar 23 noPlace refl .1 (x, r .run-23 .1 (y, f .1)),
         );
         verdict-14 = (
           first-14 noPlace,
-          λ f. let (x, y) = none-parts (badNumbers own n ∷ outside lent c ∷ []) (misframed bs ∷ []) (f .0) in
-              read-bar 14 noPlace refl .1 (x, r .reading-14 .1 (y, f .1)),
+          λ f. let (x, y) = none-parts (badNumbers own n ∷ outside lent c ∷ []) (optionCut bs ∷ ninthContainer bs ∷ []) (f .0) in
+              read-bar 14 noPlace refl .1 (x, r .run-14 .1 (y, f .1)),
         );
-        verdict-15 = bar-at 15 [] malformed refl (r .reading-15);
-        verdict-16 = bar-at 16 (malformed ∷ []) repeated refl (r .reading-16);
-        verdict-17 = bar-at 17 (malformed ∷ repeated ∷ []) misused refl (r .reading-17);
+        verdict-15 = bar-at 15 [] malformed refl (r .run-15);
+        verdict-16 = bar-at 16 (malformed ∷ []) repeated refl (r .run-16);
+        verdict-17 = bar-at 17 (malformed ∷ repeated ∷ []) misused refl (r .run-17);
         verdict-18 = constraint-at 17 [] unknownMandatory refl (constraint-18 n sum);
         verdict-19 = constraint-at 18 (unknownMandatory ∷ []) (unmet n sum) refl (constraint-19 n sum);
         verdict-20 = (
@@ -371,13 +385,27 @@ module _ (own : Own) (lent : List ℕ) (c : Candidate) where
       → (numberOf (verdict own lent c) ≡ m) ↔ ((place : ℕ) × P place)
   at-some-place m P h x = (λ e. let (p, q) = barred-at m h e in (p, x p .0 q), λ w. ap numberOf (x (w .0) .1 (w .1)))
 
+  -- 13 is no case's number
+  not-13 : numberOf (verdict own lent c) ≡ 13 → ⊥
+  not-13 e = go (badNumbers own n) (outside lent c) (isRefused (readRun bs)) (isGiven (constraintNumber n (readRun bs))) (isGiven (rankBar own n)) (by-number 13 13 refl e)
+    where
+      go : (a b r k q : Bool) → firstCase (casesOf a b r k q) ≡ 13 → ⊥
+      go true b r k q e = omega arith
+      go false true r k q e = omega arith
+      go false false true k q e = omega arith
+      go false false false true q e = omega arith
+      go false false false false true e = omega arith
+      go false false false false false e = omega arith
+
   pub bar-exact : BarExact own lent c (numberOf (verdict own lent c))
   bar-exact =
       let v = verdict-exact in
       record {
         bar-11 = (λ e. exact cases 0 refl .0 (by-number 11 11 refl e), λ f. ap numberOf (v .verdict-11 .1 f));
         bar-12 = (λ e. exact cases 1 refl .0 (by-number 12 12 refl e), λ f. ap numberOf (v .verdict-12 .1 f));
-        bar-13 = (λ e. let (p, q) = barred-at 13 (λ z. omega arith) e in first-13 p q, λ f. ap numberOf (v .verdict-13 .1 f));
+        bar-22 = (λ e. let (p, q) = barred-at 22 (λ z. omega arith) e in first-22 p q, λ f. ap numberOf (v .verdict-22 .1 f));
+        bar-23 = (λ e. let (p, q) = barred-at 23 (λ z. omega arith) e in first-23 p q, λ f. ap numberOf (v .verdict-23 .1 f));
+        never-13 = not-13;
         bar-14 = (λ e. let (p, q) = barred-at 14 (λ z. omega arith) e in first-14 p q, λ f. ap numberOf (v .verdict-14 .1 f));
         bar-15 = at-some-place 15 _ (λ e. omega arith) (v .verdict-15);
         bar-16 = at-some-place 16 _ (λ e. omega arith) (v .verdict-16);

@@ -3,7 +3,7 @@ use mathlib.Core.Path.{_≡_, refl, sym, subst, _∙_}
 use Prim.Native.Nat.{ℕ, zero, suc, _+_, _*_, _/_, _%_, _^_, _≤_}
 use native.Mathlib.Omega.{arith}
 use mathlib.Core.Bool.{Bool, true, false, cond, _&&_}
-use mathlib.Core.List.{List, [], _∷_, _++_}
+use mathlib.Core.List.{List, [], _∷_, _++_, map, append-nil}
 use mathlib.Core.Option.{some, Option·none-ne-some}
 use lib.ListN.{length, take, drop, getElem?, take-append-drop, length-append}
 use lib.Dec.{ltb, eqb}
@@ -14,8 +14,11 @@ use Rattle.model.specs.declared.Own.{Own}
 use Rattle.model.specs.declared.Neighbour.{Neighbour}
 use Rattle.model.specs.Number.{isSet, anyOf, number, bigEndian}
 use Rattle.model.specs.Object.{Object, fieldA, join, container, Kind, unknown, lql, colour, node, scalar, Node, nsa, ne, hp, throughput, latency, etx, kind, Role, constraint, recorded, aggregated, role}
+use Rattle.model.specs.Cut.{keepIf}
+use Rattle.model.specs.Run.{RplOption, pad1, option, joinOptions, isContainer, containers, runObjects, concat}
+use Rattle.model.specs.Pack.{isOverlong, unpackable, packed}
 use Rattle.model.specs.Constraint.{linkValue, colourIn}
-use Rattle.model.specs.Verdict.{containerOf}
+use Rattle.model.specs.Verdict.{runOf}
 use Rattle.model.specs.Update.{localValue, valueOr0, combine, onTwo, onField, clear0, combine1, widthOf, mostOf, aggregatedBody, clear1, constraintBody, subObject, clearEach, ownEnergy, behindReserved, countLevel, clearColour, countColour, recordedBody, addsNothing, nextBody, nextFlags, nextMode, updateObject, update}
 use Rattle.model.specs.RoundTrip.{Bytes}
 use Rattle.model.specs.ReadBack.{PassesBytes}
@@ -26,7 +29,8 @@ use Rattle.model.proofs.CallLaws.{unrefused}
 use Rattle.model.proofs.Selection.{selection}
 use Rattle.model.proofs.OutgoingLaws.{leaf-is, passed-is}
 use Rattle.model.proofs.LeafLaws.{fits}
-use Rattle.model.proofs.ReadingLaws.{reading-objects}
+use Rattle.model.proofs.RunLaws.{options-join, join-options, run-options, joined-objects, run-objects}
+use Rattle.model.proofs.PackLaws.{isLong, written, joined-packed}
 
 -- ---- lists of bytes
 
@@ -220,16 +224,17 @@ module _ (own : Own) (c : Neighbour) (e : own .energy ≤ 255) (t : own .nodetyp
   next-bytes k recorded a b h = recorded-bytes k b h
   next-bytes k aggregated a b h = aggregated-bytes k a b h
 
-  -- objects that are bytes, updated, where the data still fits
-  objects-bytes : (os : List Object) → Bytes (join os) → length (join (update own c os)) ≤ 255 → Bytes (join (update own c os))
+  -- objects that are bytes, updated, where none is too long
+  objects-bytes : (os : List Object) → Bytes (join os) → anyOf isOverlong (update own c os) ≡ false → Bytes (join (update own c os))
   unfolding join updateObject
   objects-bytes [] h l = refl
   objects-bytes (o ∷ os) h l =
       let (a, m, r) = header-parts (o .type) (o .flags) (o .mode) (length (o .body)) (o .body ++ join os) h in
       let (b, k) = part-bytes (o .body) (join os) r in
       let body = nextBody own c (kind o) (role o) (fieldA o) (o .body) in
-      let w = length-append body (join (update own c os)) in
-      let ih = objects-bytes os k (omega arith) in
+      let (x, y) = neither (isOverlong (updateObject own c o)) (anyOf isOverlong (update own c os)) l in
+      let w = ltb-false 255 (suc (suc (suc (suc (length body))))) x in
+      let ih = objects-bytes os k y in
       header-bytes (o .type) (nextFlags (role o) (addsNothing c (kind o)) (o .flags)) (nextMode (role o) (o .mode)) (length body) (body ++ join (update own c os)) a
       (flags-byte (role o) (addsNothing c (kind o)) (o .flags)) (mode-byte (role o) (o .mode) m) (omega arith)
       (both-bytes body (join (update own c os)) (next-bytes (kind o) (role o) (fieldA o) (o .body) b) ih)
@@ -247,9 +252,48 @@ body-bytes (x ∷ os) i o h e =
     go zero e b f = let q : x ≡ o = cc in rw q at b
     go (suc j) e b f = f j e
 
--- the data of a container of bytes
-pub data-bytes : (bs : List ℕ) (os : List Object) → Bytes bs → bs ≡ container os → Bytes (join os)
-data-bytes bs os h e = first-byte (length (join os)) (join os) (first-byte 2 (length (join os) ∷ join os) (subst (λ l. Bytes l) e h) .1) .1
+-- the containers' data of options that are bytes
+containers-bytes : (os : List RplOption) → Bytes (joinOptions os) → Bytes (concat (containers os))
+unfolding joinOptions containers concat
+containers-bytes [] h = refl
+containers-bytes (pad1 ∷ os) h = containers-bytes os (first-byte 0 (joinOptions os) h .1)
+containers-bytes (option t d ∷ os) h =
+    let (a, b) = part-bytes d (joinOptions os) (first-byte (length d) (d ++ joinOptions os) (first-byte (suc t) (length d ∷ d ++ joinOptions os) h .1) .1) in
+    go (isContainer t) a (containers-bytes os b)
+  where
+    go : (b : Bool) → Bytes d → Bytes (concat (containers os)) → Bytes (concat (keepIf b d (containers os)))
+    go true p q = both-bytes d (concat (containers os)) p q
+    go false p q = q
+
+-- the joined data of a run of bytes
+pub data-bytes : (bs : List ℕ) (os : List Object) → Bytes bs → runObjects bs ≡ some os → Bytes (join os)
+data-bytes bs os h e = let (run, q, o) = run-options bs os e in
+    rw (joined-objects bs os e, q) (containers-bytes run (rw (join-options bs run q) h))
+
+-- objects that are bytes, in containers that are not too long
+packed-bytes : (ds : List (List ℕ)) → anyOf isLong ds ≡ false → Bytes (concat ds) → Bytes (joinOptions (map (option 1) ds))
+unfolding joinOptions concat
+packed-bytes [] l h = refl
+packed-bytes (d ∷ ds) l h =
+    let (a, b) = neither (isLong d) (anyOf isLong ds) l in
+    let (x, y) = part-bytes d (concat ds) h in
+    more-bytes 2 (length d ∷ d ++ joinOptions (map (option 1) ds)) (omega arith)
+    (more-bytes (length d) (d ++ joinOptions (map (option 1) ds)) (ltb-false 255 (length d) a) (both-bytes d (joinOptions (map (option 1) ds)) x (packed-bytes ds b y)))
+
+containers-are : (ds : List (List ℕ)) → containers (map (option 1) ds) ≡ ds
+unfolding containers
+containers-are [] = refl
+containers-are (d ∷ ds) = rw (containers-are ds)
+
+packs : (os : List Object) → unpackable os ≡ false → anyOf isOverlong os ≡ false
+unfolding unpackable
+packs os u = neither (anyOf isOverlong os) _ u .0
+
+written-bytes : (os : List Object) → unpackable os ≡ false → Bytes (join os) → Bytes (packed os)
+written-bytes os u h =
+    let w = written os u in
+    let e : concat (w .data′) ≡ join os = sym (rw (w .bytes, options-join (map (option 1) (w .data′)), containers-are (w .data′))) ∙ joined-packed os in
+    rw (w .bytes) (packed-bytes (w .data′) (w .short) (rw e h))
 
 -- ---- the call
 
@@ -258,11 +302,10 @@ passes-bytes own cs lent out h e p =
     let x = selection own cs lent out (p .unrefused) .parent (p .parent) in
     let n = x .candidate .neighbour in
     let a = admitted own lent (x .candidate) (sym (nothing-bars own lent (x .candidate)) ∙ x .unbarred) in
-    let r = reading-objects (containerOf lent (x .candidate)) (x .objects) (x .read) in
-    let data′ = data-bytes _ (x .objects) (take-bytes (x .candidate .size) (drop (x .candidate .start) lent) (drop-bytes (x .candidate .start) lent h)) (r .whole) in
+    let r = run-objects (runOf lent (x .candidate)) (x .objects) (x .read) in
+    let data′ = data-bytes _ (x .objects) (take-bytes (x .candidate .size) (drop (x .candidate .start) lent) (drop-bytes (x .candidate .start) lent h)) (r .objects) in
     let l = fits own n (x .objects) (sym (leaf-is own cs lent out (p .unrefused) x) ∙ p .noLeaf) in
     let t = unrefused own cs lent out (p .unrefused) .knownType in
     let (i, j, q, k) = in-range own n (a .inRange) in
     rw (passed-is own cs lent out (p .unrefused) x (p .noLeaf))
-    (more-bytes 2 (length (join (update own n (x .objects))) ∷ join (update own n (x .objects))) (omega arith)
-    (more-bytes (length (join (update own n (x .objects)))) (join (update own n (x .objects))) l (objects-bytes own n e t q k (x .objects) data′ l)))
+    (written-bytes (update own n (x .objects)) l (objects-bytes own n e t q k (x .objects) data′ (packs (update own n (x .objects)) l)))

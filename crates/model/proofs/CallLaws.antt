@@ -32,7 +32,7 @@ pub record Unrefused (own : Own) (cs : List Candidate) (out : List ℕ) : Type 0
   pub grows : 1 ≤ own .minhop
   pub knownType : own .nodetype ≤ 3
   pub few : length cs ≤ 16
-  pub room : 257 ≤ length out
+  pub room : 2056 ≤ length out
 
 pub unrefused : (own : Own) (cs : List Candidate) (lent out : List ℕ) → call own cs lent out .answer .refusal ≡ 0 → Unrefused own cs out
 unfolding badOwn
@@ -43,7 +43,7 @@ unrefused own cs lent out e =
     let (c, z) = neither (currentPast own (length cs)) _ y in
     let (d, w) = neither (shortOutput (length out)) _ z in
     let m = eqb-false (own .minhop) 0 (neither (eqb (own .minhop) 0) _ a .0) in
-    record { grows = go (own .minhop) m; knownType = ltb-false 3 (own .nodetype) (neither (eqb (own .minhop) 0) _ a .1); few = ltb-false 16 (length cs) b; room = ltb-false (length out) 257 d }
+    record { grows = go (own .minhop) m; knownType = ltb-false 3 (own .nodetype) (neither (eqb (own .minhop) 0) _ a .1); few = ltb-false 16 (length cs) b; room = ltb-false (length out) 2056 d }
   where
     go : (n : ℕ) → (n ≡ 0 → ⊥) → 1 ≤ n
     go zero h = absurd (h refl)

@@ -17,7 +17,7 @@ use Rattle.model.specs.Constraint.{colourIn, hasAll, metColour, met}
 use Rattle.model.specs.Update.{clearColour, constraintBody, updateObject}
 use Rattle.model.specs.Colours.{HasColour, LacksColour, ColourShapes, ColourExact, ColourMet, Cleared, ClearsColour}
 use Rattle.model.proofs.BoolLaws.{both}
-use Rattle.model.proofs.ReadingLaws.{reading-objects}
+use Rattle.model.proofs.RunLaws.{run-objects}
 use Rattle.model.proofs.TabledLaws.{whole-of, at-tabled}
 
 -- ---- bodies
@@ -168,5 +168,5 @@ pub clears-colour : ClearsColour
 unfolding kindOf roleOf updateObject constraintBody
 clears-colour own c bs os i o w e t p =
     let k : kind o ≡ colour = rw t in
-    let shape : fixedShape (row colour) (o .body) ≡ true = rw (p, k) at (at-tabled os i o (reading-objects bs os w .noBar) e (rw k)) in
+    let shape : fixedShape (row colour) (o .body) ≡ true = rw (p, k) at (at-tabled os i o (run-objects bs os w .noBar) e (rw k)) in
     rw (k, p) (cleared (o .body) (whole-of (row colour) (o .body) refl shape))

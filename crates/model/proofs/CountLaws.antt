@@ -16,7 +16,7 @@ use Rattle.model.specs.Constraint.{colourIn}
 use Rattle.model.specs.Update.{countLevel, countedBody, countColour, colouredBody, recordedBody, updateObject}
 use Rattle.model.specs.Counters.{Counter, counter, levels, colours, Gains, Opens, Counts, CountsLevel, CountsColour, RecordsWhole}
 use Rattle.model.proofs.BoolLaws.{both}
-use Rattle.model.proofs.ReadingLaws.{reading-objects}
+use Rattle.model.proofs.RunLaws.{run-objects}
 use Rattle.model.proofs.TabledLaws.{at-tabled}
 use Rattle.model.proofs.ShapeLaws.{colours-even}
 
@@ -157,11 +157,11 @@ unfolding kindOf
 records-whole bs os i o w e r = (
   λ t.
       let k : kind o ≡ lql = rw t in
-      let shape : recordedShape (row lql) (o .body) ≡ true = rw (r, k) at (at-tabled os i o (reading-objects bs os w .noBar) e (rw k)) in
+      let shape : recordedShape (row lql) (o .body) ≡ true = rw (r, k) at (at-tabled os i o (run-objects bs os w .noBar) e (rw k)) in
       series-of (row lql) (o .body) shape .0,
   λ t.
       let k : kind o ≡ colour = rw t in
-      let shape : recordedShape (row colour) (o .body) ≡ true = rw (r, k) at (at-tabled os i o (reading-objects bs os w .noBar) e (rw k)) in
+      let shape : recordedShape (row colour) (o .body) ≡ true = rw (r, k) at (at-tabled os i o (run-objects bs os w .noBar) e (rw k)) in
       let (p, q) = series-of (row colour) (o .body) shape in
       (p, omega (arith, p, q)),
 )

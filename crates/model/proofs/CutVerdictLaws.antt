@@ -11,10 +11,11 @@ use Rattle.model.specs.declared.Offer.{Offer}
 use Rattle.model.specs.declared.Verdict.the-variants.{Unbarred, Barred}
 use Rattle.model.specs.Number.{anyOf, firstOf, indexOf}
 use Rattle.model.specs.Object.{Object}
-use Rattle.model.specs.Reading.{noPlace, wellFormed, reading}
+use Rattle.model.specs.Reading.{noPlace, wellFormed}
+use Rattle.model.specs.Run.{readRun}
 use Rattle.model.specs.Constraint.{summary, unknownMandatory, constraintBar}
 use Rattle.model.specs.Rank.{resulting}
-use Rattle.model.specs.Verdict.{offerOf, badNumbers, containerOf, rankBar, judgeRank, judgeObjects, judgeReading, verdict, isUnbarred}
+use Rattle.model.specs.Verdict.{offerOf, badNumbers, runOf, rankBar, judgeRank, judgeObjects, judgeReading, verdict, isUnbarred}
 use Rattle.model.specs.Cut.{cut}
 use Rattle.model.specs.Unknown.{CutBeside, isUnknownMandatory, holdsUnknown}
 use Rattle.model.specs.Conditions.{objectsIn}
@@ -24,7 +25,7 @@ use Rattle.model.proofs.BoolLaws.{neither, or-right}
 use Rattle.model.proofs.VerdictLaws.{admitted}
 use Rattle.model.proofs.NumberLaws.{isGiven}
 use Rattle.model.proofs.CutLaws.{constraintBars-cut, constraintBars-same}
-use Rattle.model.proofs.ReadingLaws.{reading-objects, reading-cut}
+use Rattle.model.proofs.RunLaws.{run-objects, run-cut}
 use Rattle.model.proofs.ChoiceLaws.{placeless}
 
 rank-bars : (own : Own) (c : Neighbour) (n : ℕ) → not (isUnbarred (judgeRank own c n)) ≡ isGiven n
@@ -55,10 +56,10 @@ judge-same own c os e = rw (constraintBars-same c os e) (judge-placeless own c (
 module _ (own : Own) (lent lent′ : List ℕ) (c c′ : Candidate) (x : CutBeside lent lent′ c c′) where
   pub holds-unknown : holdsUnknown lent c ≡ anyOf unknownMandatory (x .whole .objects)
   holds-unknown =
-      any-same isUnknownMandatory unknownMandatory unknown-mandatory (objectsIn (containerOf lent c)) ∙ rw (reading-objects (containerOf lent c) (x .whole .objects) (x .whole .read) .objects)
+      any-same isUnknownMandatory unknownMandatory unknown-mandatory (objectsIn (runOf lent c)) ∙ rw (run-objects (runOf lent c) (x .whole .objects) (x .whole .read) .objects)
 
-  pub read-second : reading (containerOf lent′ c′) ≡ wellFormed (cut (x .whole .objects))
-  read-second = rw (x .cut) (reading-cut (containerOf lent c) (x .whole .objects) (x .whole .read))
+  pub read-second : readRun (runOf lent′ c′) ≡ wellFormed (cut (x .whole .objects))
+  read-second = rw (x .cut) (run-cut (runOf lent c) (x .whole .objects) (x .whole .read))
 
   pub verdict-bars : not (isUnbarred (verdict own lent c)) ≡ not (isUnbarred (verdict own lent′ c′)) || holdsUnknown lent c
   unfolding verdict

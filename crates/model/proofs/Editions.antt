@@ -15,10 +15,11 @@ use Rattle.model.specs.declared.Choice.{Choice}
 use Rattle.model.specs.declared.Choice.the-variants.{Nobody, Parent}
 use Rattle.model.specs.Number.{firstOf, indexOf}
 use Rattle.model.specs.Object.{Object, Kind, unknown, lql, colour, node, scalar, nsa, ne, hp, Scalar, throughput, latency, etx, Role, constraint, recorded, aggregated, role, kind, fieldA}
-use Rattle.model.specs.Reading.{Reading, refused, wellFormed, reading}
+use Rattle.model.specs.Reading.{Reading, refused, wellFormed}
+use Rattle.model.specs.Run.{readRun}
 use Rattle.model.specs.Constraint.{linkValue, summary, met, constraintBar}
 use Rattle.model.specs.Rank.{resulting, rankTooHigh, aboveLowest}
-use Rattle.model.specs.Verdict.{outOfRange, siteOutOfRange, isSecond, badNumbers, grounded, aheadOf, containerOf, rankBar, judgeRank, judgeObjects, judgeReading, verdict}
+use Rattle.model.specs.Verdict.{outOfRange, siteOutOfRange, isSecond, badNumbers, grounded, aheadOf, runOf, rankBar, judgeRank, judgeObjects, judgeReading, verdict}
 use Rattle.model.specs.Update.{localValue, recordedBody, addsNothing, isBeyond, nextBody, updateObject, update, objectLeaf, tooLong, leafAnswer}
 use Rattle.model.specs.Choice.{outgoingRead, outgoingAt, outgoing, verdicts, call}
 use Rattle.model.specs.Editions.{EditionRefused, FirstRanges, SecondRanges, FirstCriteria, SecondCriteria, firstOnly, withoutSecond, FirstEdition}
@@ -182,7 +183,7 @@ module _ (own : Own) (lent : List ℕ) (h : own .edition ≡ 2 → ⊥) where
 
   verdict-same : (c : Candidate) → verdict own lent (withoutSecond c) ≡ verdict own lent c
   unfolding verdict
-  verdict-same c = rw (numbers-same (c .neighbour), judge-same (c .neighbour) (reading (containerOf lent c)))
+  verdict-same c = rw (numbers-same (c .neighbour), judge-same (c .neighbour) (readRun (runOf lent c)))
 
   verdicts-same : (cs : List Candidate) → verdicts own (map withoutSecond cs) lent ≡ verdicts own cs lent
   verdicts-same [] = refl
@@ -190,7 +191,7 @@ module _ (own : Own) (lent : List ℕ) (h : own .edition ≡ 2 → ⊥) where
 
   at-same : (cs : List Candidate) (p : ℕ) → outgoingAt own lent (getElem? (map withoutSecond cs) p) ≡ outgoingAt own lent (getElem? cs p)
   at-same [] p = refl
-  at-same (c ∷ cs) zero = read-same own (c .neighbour) (reading (containerOf lent c))
+  at-same (c ∷ cs) zero = read-same own (c .neighbour) (readRun (runOf lent c))
   at-same (c ∷ cs) (suc p) = at-same cs p
 
   outgoing-same : (cs : List Candidate) (b : Choice) → outgoing own (map withoutSecond cs) lent b ≡ outgoing own cs lent b

@@ -14,6 +14,7 @@ use Rattle.model.specs.Number.{isSet, number, anyOf, _when_, firstCase, 
 use Rattle.model.specs.Object.{Object, fieldA, join, kindOf, roleOf}
 use Rattle.model.specs.Constraint.{linkValue}
 use Rattle.model.specs.Update.{unknownAggregated, notAllowed, noValue, fullCount, isBeyond, overflows, leafCases, objectLeaf, tooLong, leafAnswer, update}
+use Rattle.model.specs.Pack.{unpackable}
 use Rattle.model.specs.Conditions.{someHas}
 use Rattle.model.specs.Exact.{FirstToHold, leafTests, LeafAt, LeafExact, OverflowTypes}
 use Rattle.model.proofs.BoolLaws.{neither}
@@ -115,12 +116,12 @@ module _ (own : Own) (c : Neighbour) where
       );
     }
 
--- what is sent fits a container
-pub fits : (own : Own) (c : Neighbour) (os : List Object) → leafAnswer own c os ≡ 0 → length (join (update own c os)) ≤ 255
+-- what is sent fits eight containers
+pub fits : (own : Own) (c : Neighbour) (os : List Object) → leafAnswer own c os ≡ 0 → unpackable (update own c os) ≡ false
 unfolding tooLong
 fits own c os e =
     let (a, b) = neither (someHas (leafTests own c) os) _ (leaf-exact own c os .no-leaf .0 e) in
-    ltb-false 255 (length (join (update own c os))) (neither (tooLong own c os) false b .0)
+    neither (tooLong own c os) false b .0
 
 -- ---- leaf answer 36 by numbers
 

@@ -7,6 +7,7 @@ pub mod ChoiceLaws
 pub mod ChoosingLaws
 pub mod Refusals
 pub mod Readings
+pub mod RunReadings
 pub mod Bars
 pub mod LeafLaws
 pub mod VerdictLaws

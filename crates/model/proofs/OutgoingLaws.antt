@@ -11,9 +11,11 @@ use Rattle.model.specs.declared.Own.{Own}
 use Rattle.model.specs.declared.Candidate.{Candidate}
 use Rattle.model.specs.declared.Choice.{Choice}
 use Rattle.model.specs.declared.Choice.the-variants.{Nobody, Parent}
-use Rattle.model.specs.Object.{Object, container}
-use Rattle.model.specs.Reading.{wellFormed, reading}
-use Rattle.model.specs.Verdict.{containerOf}
+use Rattle.model.specs.Object.{Object}
+use Rattle.model.specs.Reading.{wellFormed}
+use Rattle.model.specs.Run.{readRun}
+use Rattle.model.specs.Pack.{packed}
+use Rattle.model.specs.Verdict.{runOf}
 use Rattle.model.specs.Update.{update, leafAnswer}
 use Rattle.model.specs.Choice.{Outgoing, noContainer, nextHop, unlessLeaf, outgoing, noParent, leafOf, choiceOf, call}
 use Rattle.model.specs.Selection.{PreferredParent}
@@ -26,15 +28,15 @@ use Rattle.model.proofs.Selection.{parented}
 pub data Sending (own : Own) (cs : List Candidate) (lent : List ℕ) (ch : Choice) : Outgoing → Type 0 where
   nobody : ch ≡ Nobody → Sending own cs lent ch (noContainer 0)
   asLeaf : (k : ℕ) → Sending own cs lent ch (noContainer (suc k))
-  sends : (p : ℕ) (r : Offer) (c : Candidate) (os : List Object) → ch ≡ Parent p r → getElem? cs p ≡ some c → reading (containerOf lent c) ≡ wellFormed os
-      → leafAnswer own (c .neighbour) os ≡ 0 → Sending own cs lent ch (nextHop (container (update own (c .neighbour) os)))
+  sends : (p : ℕ) (r : Offer) (c : Candidate) (os : List Object) → ch ≡ Parent p r → getElem? cs p ≡ some c → readRun (runOf lent c) ≡ wellFormed os
+      → leafAnswer own (c .neighbour) os ≡ 0 → Sending own cs lent ch (nextHop (packed (update own (c .neighbour) os)))
 
 sending-parent : (own : Own) (cs : List Candidate) (lent : List ℕ) (p : ℕ) (r : Offer) (c : Candidate) (os : List Object) → getElem? cs p ≡ some c
-    → reading (containerOf lent c) ≡ wellFormed os → Sending own cs lent (Parent p r) (outgoing own cs lent (Parent p r))
+    → readRun (runOf lent c) ≡ wellFormed os → Sending own cs lent (Parent p r) (outgoing own cs lent (Parent p r))
 unfolding outgoing
 sending-parent own cs lent p r c os s e = rw (s, e) (go (leafAnswer own (c .neighbour) os) refl)
   where
-    go : (k : ℕ) → leafAnswer own (c .neighbour) os ≡ k → Sending own cs lent (Parent p r) (unlessLeaf k (container (update own (c .neighbour) os)))
+    go : (k : ℕ) → leafAnswer own (c .neighbour) os ≡ k → Sending own cs lent (Parent p r) (unlessLeaf k (packed (update own (c .neighbour) os)))
     go zero l = sends p r c os refl s e l
     go (suc k) l = asLeaf k
 
@@ -48,17 +50,17 @@ sending own cs lent out taken (Parent p r) e =
 
 -- the leaf number of a parent with these objects
 leaf-of : (own : Own) (cs : List Candidate) (lent : List ℕ) (p : ℕ) (r : Offer) (c : Candidate) (os : List Object) → getElem? cs p ≡ some c
-    → reading (containerOf lent c) ≡ wellFormed os → leafOf (outgoing own cs lent (Parent p r)) ≡ leafAnswer own (c .neighbour) os
+    → readRun (runOf lent c) ≡ wellFormed os → leafOf (outgoing own cs lent (Parent p r)) ≡ leafAnswer own (c .neighbour) os
 unfolding outgoing
 leaf-of own cs lent p r c os s e = rw (s, e) (go (leafAnswer own (c .neighbour) os))
   where
-    go : (k : ℕ) → leafOf (unlessLeaf k (container (update own (c .neighbour) os))) ≡ k
+    go : (k : ℕ) → leafOf (unlessLeaf k (packed (update own (c .neighbour) os))) ≡ k
     go zero = refl
     go (suc k) = refl
 
 -- the container that is sent for them
 container-of : (own : Own) (cs : List Candidate) (lent : List ℕ) (p : ℕ) (r : Offer) (c : Candidate) (os : List Object) → getElem? cs p ≡ some c
-    → reading (containerOf lent c) ≡ wellFormed os → leafAnswer own (c .neighbour) os ≡ 0 → outgoing own cs lent (Parent p r) ≡ nextHop (container (update own (c .neighbour) os))
+    → readRun (runOf lent c) ≡ wellFormed os → leafAnswer own (c .neighbour) os ≡ 0 → outgoing own cs lent (Parent p r) ≡ nextHop (packed (update own (c .neighbour) os))
 unfolding outgoing
 container-of own cs lent p r c os s e l = rw (s, e, l)
 
@@ -87,8 +89,8 @@ module _ (own : Own) (cs : List Candidate) (lent out : List ℕ) (taken : call o
       let h = chosen in
       rw (call-is own cs lent out taken, h .choice) (leaf-of own cs lent (h .position) (h .offer) (x .candidate) (x .objects) (h .stands) (x .read))
 
-  pub passed-is : call own cs lent out .answer .leaf ≡ 0 → passedOn (call own cs lent out) ≡ container (update own (x .candidate .neighbour) (x .objects))
+  pub passed-is : call own cs lent out .answer .leaf ≡ 0 → passedOn (call own cs lent out) ≡ packed (update own (x .candidate .neighbour) (x .objects))
   passed-is l =
       let h = chosen in
       let o = container-of own cs lent (h .position) (h .offer) (x .candidate) (x .objects) (h .stands) (x .read) (sym leaf-is ∙ l) in
-      rw (call-is own cs lent out taken, h .choice, o) (take-append-seam (container (update own (x .candidate .neighbour) (x .objects))) _)
+      rw (call-is own cs lent out taken, h .choice, o) (take-append-seam (packed (update own (x .candidate .neighbour) (x .objects))) _)

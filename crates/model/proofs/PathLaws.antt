@@ -13,7 +13,8 @@ use borrow.Author.Tests.{eqb-true, eq-eqb, ne-eqb, leb-true, le-leb, not-false}
 use Rattle.model.specs.declared.Neighbour.{Neighbour}
 use Rattle.model.specs.Number.{isSet, number, firstOf}
 use Rattle.model.specs.Object.{Object, bitO, bitC, bitR, fieldA, Scalar, latency, etx, typeOf, kindOf, kind, known, roleOf, standings}
-use Rattle.model.specs.Reading.{objectBar, reading, wellFormed}
+use Rattle.model.specs.Reading.{objectBar, wellFormed}
+use Rattle.model.specs.Run.{readRun}
 use Rattle.model.specs.Constraint.{addsUp, pathValue, summary, met, unmet}
 use Rattle.model.specs.Exact.{isSummed, PathLimit, PathLimits}
 use Rattle.model.proofs.BoolLaws.{both}
@@ -21,7 +22,7 @@ use Rattle.model.proofs.ListLaws.{at-split, any-same}
 use Rattle.model.proofs.TypeLaws.{scalar-type, aggregated-bits, constraint-bit}
 use Rattle.model.proofs.TabledLaws.{bar-free, among-free}
 use Rattle.model.proofs.SummaryLaws.{from-behind, from-none, adds-use, use-fresh}
-use Rattle.model.proofs.ReadingLaws.{reading-objects}
+use Rattle.model.proofs.RunLaws.{run-objects}
 use Rattle.model.proofs.ConstraintLaws.{by-throughput, by-latency, by-etx}
 
 -- ---- what is received
@@ -50,11 +51,11 @@ tested bit a n = (
   λ f. rw (eq-eqb bit 1 (f .0), le-leb a n (f .1)),
 )
 
-module _ (s : Scalar) (bs : List ℕ) (os : List Object) (r : reading bs ≡ wellFormed os) (bit v n : ℕ) (u : Bool) (e : u ≡ not (isSet bit && leb (pathValue s os + v) n)) where
+module _ (s : Scalar) (bs : List ℕ) (os : List Object) (r : readRun bs ≡ wellFormed os) (bit v n : ℕ) (u : Bool) (e : u ≡ not (isSet bit && leb (pathValue s os + v) n)) where
   limited : PathLimit os (typeOf s) bit v n u
   limited = record {
     sum = λ i m at a k.
-        let x = received s os i m (reading-objects bs os r .noBar) at (sym (summed-is s m) ∙ a) in
+        let x = received s os i m (run-objects bs os r .noBar) at (sym (summed-is s m) ∙ a) in
         let (f, g) = tested bit (number (m .body) + v) n in
         rw (e, x) (λ q. f q .1, λ l. g (k, l));
     unknown = λ i m at a k. rw (e, ne-eqb bit 1 k);

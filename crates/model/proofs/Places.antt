@@ -1,7 +1,7 @@
 -- What is passed on keeps unknown objects and TLVs in their places.
 use Rattle.model.specs.Update.{update}
 use Rattle.model.specs.Unknown.{PlacesKept}
-use Rattle.model.proofs.ReadingLaws.{container-objects}
+use Rattle.model.proofs.PackLaws.{packed-objects}
 use Rattle.model.proofs.PlaceLaws.{update-places}
 use Rattle.model.proofs.Selection.{selection}
 use Rattle.model.proofs.OutgoingLaws.{passed-is}
@@ -16,6 +16,6 @@ places-kept own cs lent out p =
       received = x .objects;
       read = x .read;
       next = update own n (x .objects);
-      splits = rw (passed-is own cs lent out (p .unrefused) x (p .noLeaf)) (container-objects (update own n (x .objects)));
+      splits = rw (passed-is own cs lent out (p .unrefused) x (p .noLeaf)) (packed-objects (update own n (x .objects)));
       each = update-places own n (x .objects);
     }

@@ -1,5 +1,5 @@
 -- The written container reads back as the updated objects; no sum wraps.
-use mathlib.Core.Path.{_≡_, refl, _∙_}
+use mathlib.Core.Path.{_≡_, refl, sym, _∙_}
 use Prim.Native.Nat.{ℕ, zero, suc, _+_, _*_, _/_, _%_, _^_, _≤_, _<_, min}
 use native.Mathlib.Omega.{arith}
 use mathlib.Core.Bool.{true}
@@ -21,17 +21,20 @@ use Rattle.model.specs.RoundTrip.{Bytes}
 use Rattle.model.proofs.RoundTrip.{number-bigEndian, number-below}
 use Rattle.model.proofs.TypeLaws.{known-types}
 use Rattle.model.proofs.ConstraintLaws.{known-is}
-use Rattle.model.proofs.ReadingLaws.{reading-objects, reading-container}
+use Rattle.model.proofs.RunLaws.{run-objects}
+use Rattle.model.proofs.PackLaws.{reading-packed}
+use Rattle.model.proofs.LeafLaws.{fits}
 use Rattle.model.proofs.TabledLaws.{at-tabled, base-of, whole-of}
 use Rattle.model.proofs.ByteLaws.{combine-within, body-bytes, data-bytes}
 use Rattle.model.proofs.UpdateLaws.{scalar-tlvs}
 use Rattle.model.proofs.ShapeLaws.{objectBars-update}
-use Rattle.model.proofs.OutgoingLaws.{passed-is}
+use Rattle.model.proofs.OutgoingLaws.{leaf-is, passed-is}
 
 pub reads-back : ReadsBack
 reads-back own cs lent out p x =
-    let noBar = reading-objects _ (x .objects) (x .read) .noBar in
-    rw (passed-is own cs lent out (p .unrefused) x (p .noLeaf)) (reading-container _ (objectBars-update own (x .candidate .neighbour) [] (x .objects) noBar))
+    let noBar = run-objects _ (x .objects) (x .read) .noBar in
+    let packs = fits own (x .candidate .neighbour) (x .objects) (sym (leaf-is own cs lent out (p .unrefused) x) ∙ p .noLeaf) in
+    rw (passed-is own cs lent out (p .unrefused) x (p .noLeaf)) (reading-packed _ packs (objectBars-update own (x .candidate .neighbour) [] (x .objects) noBar))
 
 -- ---- sums
 
@@ -143,12 +146,12 @@ body-fits s b h w = let l : number b < 256 ^ widthOf s = rw w at (number-below b
 
 pub aggregates-whole : AggregatesWhole
 aggregates-whole bs os i o w e r =
-    let whole = reading-objects bs os w in
+    let whole = run-objects bs os w in
     let shape = fixed os i o (whole .noBar) e r in
     let width : (s : Scalar) → kind o ≡ scalar s → length (o .body) ≡ widthOf s = λ s k. whole-of (row (scalar s)) (o .body) (scalar-tlvs s) (rw k at (shape (rw k))) in
     record {
       nodes = λ h l. let b = base-of (row (kind o)) (o .body) (shape (node-known (o .type) h l)) in omega (arith, node-base (o .type) h l);
       scalars = width;
-      received = λ s k b. body-fits s (o .body) (body-bytes os i o (data-bytes bs os b (whole .whole)) e) (width s k);
+      received = λ s k b. body-fits s (o .body) (body-bytes os i o (data-bytes bs os b (whole .objects)) e) (width s k);
       link = link-fits;
     }

@@ -1,4 +1,4 @@
--- What a well-formed container is; cut, it is well-formed and holds the cut objects.
+-- What a well-formed container is.
 use mathlib.Core.Path.{_≡_, refl, sym, _∙_}
 use Prim.Native.Nat.{ℕ, zero, suc, _-_, _≤_}
 use mathlib.Core.Bool.{Bool, true, false, cond, not, _||_}
@@ -11,10 +11,8 @@ use borrow.Author.Tests.{not-false, eqb-true, eq-eqb, le-ltb}
 use Rattle.model.specs.Number.{firstOf}
 use Rattle.model.specs.Object.{Object, join, container, standings}
 use Rattle.model.specs.Reading.{noPlace, misframed, dataObjects, objectBar, refused, wellFormed, readAs, readObjects, reading}
-use Rattle.model.specs.Cut.{cut, cutContainer}
 use Rattle.model.proofs.BoolLaws.{neither}
 use Rattle.model.proofs.ObjectLaws.{split-join, join-split}
-use Rattle.model.proofs.CutLaws.{objectBars-cut}
 
 -- what a reading says that gives objects
 pub record ReadAs (bs : List ℕ) (os : List Object) : Type 0 where
@@ -74,13 +72,3 @@ container-objects os = split-join os
 pub reading-container : (os : List Object) → firstOf objectBar (standings [] os) ≡ 0 → reading (container os) ≡ wellFormed os
 unfolding reading
 reading-container os z = rw (misframed-at 2 (length (join os)) (join os), eq-eqb (length (join os)) (length (join os)) refl, split-join os, z)
-
-pub cutContainer-container : (os : List Object) → cutContainer (container os) ≡ container (cut os)
-unfolding cutContainer
-cutContainer-container os = rw split-join
-
-pub reading-cut : (bs : List ℕ) (os : List Object) → reading bs ≡ wellFormed os → reading (cutContainer bs) ≡ wellFormed (cut os)
-unfolding cut
-reading-cut bs os e =
-    let r = reading-objects bs os e in
-    rw (r .whole, cutContainer-container os) (reading-container (cut os) (objectBars-cut [] os (r .noBar)))

@@ -12,7 +12,7 @@ use Rattle.model.specs.Reading.{objectCases, noPlace, misframed, dataObj
 use Rattle.model.specs.Exact.{NoneOf, FirstToHold, ReadingAt, ReadingExact, ReadingsExact}
 use Rattle.model.proofs.BoolLaws.{neither}
 use Rattle.model.proofs.NumberLaws.{exact, exact-none, given-case, isGiven, given-none, firstOf-all, given-firstOf, first-with}
-use Rattle.model.specs.Conditions.{someHas, listOf, objectsIn, objectBars}
+use Rattle.model.specs.Conditions.{someHas, listOf, containerObjects, objectBars}
 use lib.Dec.{eqb}
 
 -- ---- numbers that a group of cases gives
@@ -38,27 +38,27 @@ three-cases x y z false false false = nothing
 -- ---- bars 15 to 17 at an object
 
 -- each of 15, 16 and 17 at an object, and none of them
-object-15 : (s : Standing) → (objectBar s ≡ 15) ↔ FirstToHold [] (malformed s)
+pub object-15 : (s : Standing) → (objectBar s ≡ 15) ↔ FirstToHold [] (malformed s)
 unfolding objectBar
 object-15 s = exact (objectCases s) 0 refl
 
-object-16 : (s : Standing) → (objectBar s ≡ 16) ↔ FirstToHold (malformed s ∷ []) (repeated s)
+pub object-16 : (s : Standing) → (objectBar s ≡ 16) ↔ FirstToHold (malformed s ∷ []) (repeated s)
 unfolding objectBar
 object-16 s = exact (objectCases s) 1 refl
 
-object-17 : (s : Standing) → (objectBar s ≡ 17) ↔ FirstToHold (malformed s ∷ repeated s ∷ []) (misused s)
+pub object-17 : (s : Standing) → (objectBar s ≡ 17) ↔ FirstToHold (malformed s ∷ repeated s ∷ []) (misused s)
 unfolding objectBar
 object-17 s = exact (objectCases s) 2 refl
 
-object-none : (s : Standing) → (objectBar s ≡ 0) ↔ (anyOf (λ t. t s) objectBars ≡ false)
+pub object-none : (s : Standing) → (objectBar s ≡ 0) ↔ (anyOf (λ t. t s) objectBars ≡ false)
 unfolding objectBar
 object-none s = exact-none (objectCases s) refl
 
-object-given : (s : Standing) → isGiven (objectBar s) ≡ anyOf (λ t. t s) objectBars
+pub object-given : (s : Standing) → isGiven (objectBar s) ≡ anyOf (λ t. t s) objectBars
 unfolding objectBar
 object-given s = given-case (objectCases s) refl
 
-object-numbers : (s : Standing) → Numbers 15 16 17 (objectBar s)
+pub object-numbers : (s : Standing) → Numbers 15 16 17 (objectBar s)
 unfolding objectBar
 object-numbers s = three-cases 15 16 17 (malformed s) (repeated s) (misused s)
 
@@ -129,7 +129,7 @@ same-objects a b e = cc
 
 module _ (bs : List ℕ) where
   abbrev os : List Object
-  os = objectsIn bs
+  os = containerObjects bs
 
   abbrev number : ℕ
   number = firstOf objectBar (standings [] os)

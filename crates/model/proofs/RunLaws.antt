@@ -14,9 +14,9 @@ use Rattle.model.specs.Number.{firstOf}
 use Rattle.model.specs.Object.{Object, split, join, standings, known, kind}
 use Rattle.model.specs.Reading.{noPlace, Reading, refused, wellFormed, readAs, readObjects, objectBar, isNone}
 use Rattle.model.specs.Cut.{keepIf, cut, cutData, cutObject}
-use Rattle.model.proofs.ObjectLaws.{split-join, join-split}
+use Rattle.model.proofs.ObjectLaws.{split-join, join-split, join-append}
 use Rattle.model.proofs.CutLaws.{objectBars-cut, cut-append}
-use Rattle.model.specs.Run.{RplOption, pad1, option, optionBytes, joinOptions, leading, optionsUpTo, options, isContainer, containers, joined, objectsOf, optionsIn, runObjects, optionCut, ninthContainer, readRun, cutOption, cutRun, concat, joinedData}
+use Rattle.model.specs.Run.{RplOption, pad1, option, optionBytes, joinOptions, leading, optionsUpTo, options, isContainer, containers, joined, objectsOf, optionsIn, joinedObjects, runObjects, optionCut, ninthContainer, readRun, cutOption, cutRun, concat, joinedData}
 
 -- two limits that are at least the length give the same
 optionsUpTo-enough : (k j : ℕ) (bs : List ℕ) → length bs ≤ k → length bs ≤ j → optionsUpTo k bs ≡ optionsUpTo j bs
@@ -67,6 +67,61 @@ pub options-join : (os : List RplOption) → options (joinOptions os) ≡ some o
 unfolding options optionsUpTo
 options-join os = ap options (sym (append-nil (joinOptions os))) ∙ options-append os [] ∙ ap some (append-nil os)
 
+-- options that were read are those that were written
+joined-up-to : (k : ℕ) (bs : List ℕ) (os : List RplOption) → optionsUpTo k bs ≡ some os → joinOptions os ≡ bs
+unfolding optionsUpTo joinOptions
+joined-up-to zero [] os e = let q : os ≡ [] = cc in rw q
+joined-up-to zero (b ∷ bs) os e = absurd (Option·none-ne-some os e)
+joined-up-to (suc k) [] os e = let q : os ≡ [] = cc in rw q
+joined-up-to (suc k) (zero ∷ bs) os e = go (optionsUpTo k bs) (joined-up-to k bs) e
+  where
+    go : (r : Option (List RplOption)) → ((ps : List RplOption) → r ≡ some ps → joinOptions ps ≡ bs) → leading pad1 r ≡ some os → joinOptions os ≡ 0 ∷ bs
+    go none ih e = absurd (Option·none-ne-some os e)
+    go (some ps) ih e = let q : os ≡ pad1 ∷ ps = cc in rw (q, ih ps refl)
+joined-up-to (suc k) (suc t ∷ []) os e = absurd (Option·none-ne-some os e)
+joined-up-to (suc k) (suc t ∷ n ∷ bs) os e = test (leb n (length bs)) refl (joined-up-to k (drop n bs)) e
+  where
+    go : n ≤ length bs → (r : Option (List RplOption)) → ((ps : List RplOption) → r ≡ some ps → joinOptions ps ≡ drop n bs)
+        → leading (option t (take n bs)) r ≡ some os → joinOptions os ≡ suc t ∷ n ∷ bs
+    go l none ih e = absurd (Option·none-ne-some os e)
+    go l (some ps) ih e = let q : os ≡ option t (take n bs) ∷ ps = cc in rw (q, ih ps refl, length-take-le n bs l, take-append-drop n bs)
+
+    test : (b : Bool) → leb n (length bs) ≡ b → ((ps : List RplOption) → optionsUpTo k (drop n bs) ≡ some ps → joinOptions ps ≡ drop n bs)
+        → cond b (leading (option t (take n bs)) (optionsUpTo k (drop n bs))) none ≡ some os → joinOptions os ≡ suc t ∷ n ∷ bs
+    test true h ih e = go (leb-true n (length bs) h) (optionsUpTo k (drop n bs)) ih e
+    test false h ih e = absurd (Option·none-ne-some os e)
+
+pub join-options : (bs : List ℕ) (os : List RplOption) → options bs ≡ some os → joinOptions os ≡ bs
+unfolding options
+join-options bs os e = joined-up-to (length bs) bs os e
+
+-- ---- the joined objects
+
+-- what joined objects say that are whole
+joined-whole : (r s : Option (List Object)) (os : List Object) → joined r s ≡ some os → (a : List Object) × (b : List Object) × (r ≡ some a) × (s ≡ some b) × (os ≡ a ++ b)
+joined-whole none s os e = absurd (Option·none-ne-some os e)
+joined-whole (some a) none os e = absurd (Option·none-ne-some os e)
+joined-whole (some a) (some b) os e = (a, b, refl, refl, cc)
+
+-- their bytes are the containers' data, joined
+concat-join : (ds : List (List ℕ)) (os : List Object) → objectsOf ds ≡ some os → join os ≡ concat ds
+unfolding objectsOf concat join
+concat-join [] os e = let q : os ≡ [] = cc in rw q
+concat-join (d ∷ ds) os e =
+    let (a, b, p, q, s) = joined-whole (split d) (objectsOf ds) os e in
+    rw (s, join-append a b, join-split d a p, concat-join ds b q)
+
+-- a run that has objects has options
+pub run-options : (bs : List ℕ) (os : List Object) → runObjects bs ≡ some os → (run : List RplOption) × (options bs ≡ some run) × (objectsOf (containers run) ≡ some os)
+run-options bs os e = go (options bs) refl e
+  where
+    go : (r : Option (List RplOption)) → options bs ≡ r → joinedObjects r ≡ some os → (run : List RplOption) × (options bs ≡ some run) × (objectsOf (containers run) ≡ some os)
+    go none q e = absurd (Option·none-ne-some os e)
+    go (some run) q e = (run, q, e)
+
+pub joined-objects : (bs : List ℕ) (os : List Object) → runObjects bs ≡ some os → join os ≡ joinedData bs
+joined-objects bs os e = let (run, q, o) = run-options bs os e in rw q (concat-join (containers run) os o)
+
 -- ---- the cut
 
 pub containers-cut : (os : List RplOption) → containers (map cutOption os) ≡ map (λ d. cutData (split d)) (containers os)
@@ -79,12 +134,6 @@ containers-cut (option t d ∷ os) = go (isContainer t) (containers-cut os)
         → keepIf b (cond b (cutData (split d)) d) (containers (map cutOption os)) ≡ map (λ d. cutData (split d)) (keepIf b d (containers os))
     go true ih = rw ih
     go false ih = ih
-
--- what joined objects say that are whole
-joined-whole : (r s : Option (List Object)) (os : List Object) → joined r s ≡ some os → (a : List Object) × (b : List Object) × (r ≡ some a) × (s ≡ some b) × (os ≡ a ++ b)
-joined-whole none s os e = absurd (Option·none-ne-some os e)
-joined-whole (some a) none os e = absurd (Option·none-ne-some os e)
-joined-whole (some a) (some b) os e = (a, b, refl, refl, cc)
 
 pub objectsOf-cut : (ds : List (List ℕ)) (os : List Object) → objectsOf ds ≡ some os → objectsOf (map (λ d. cutData (split d)) ds) ≡ some (cut os)
 unfolding objectsOf cut

@@ -8,8 +8,8 @@ use lib.ListN.{length, length-append, getElem?}
 use lib.Seq.{take-append-seam, drop-append-add}
 use borrow.Author.Tests.{ltb-false, le-ltb}
 use Rattle.model.specs.declared.Candidate.{Candidate}
-use Rattle.model.specs.Verdict.{containerOf}
-use Rattle.model.specs.Cut.{cutContainer}
+use Rattle.model.specs.Verdict.{runOf}
+use Rattle.model.specs.Run.{cutRun}
 use Rattle.model.specs.Unknown.{Each, nil, cons, WellFormed, CutBeside, EndToEnd, SecondCallExists}
 
 -- a candidate with its container at the head of the lent run, and one with bytes put before the run
@@ -20,9 +20,9 @@ abbrev behind : (count : ℕ) → Candidate → Candidate
 behind n c = record { neighbour = c .neighbour; start = n + c .start; size = c .size }
 
 head-beside : (lent rest : List ℕ) (c : Candidate) → WellFormed lent c
-    → CutBeside lent (cutContainer (containerOf lent c) ++ rest) c (atHead (cutContainer (containerOf lent c)) c)
+    → CutBeside lent (cutRun (runOf lent c) ++ rest) c (atHead (cutRun (runOf lent c)) c)
 head-beside lent rest c w =
-    let bs = cutContainer (containerOf lent c) in
+    let bs = cutRun (runOf lent c) in
     record {
       whole = w;
       numbers = refl;
@@ -75,7 +75,7 @@ beside-all : (cs : List Candidate) (lent : List ℕ) → ((i : ℕ) (c : Candida
 beside-all [] lent w = ([], [], nil, refl)
 beside-all (c ∷ cs) lent w =
     let (ds, rest, e, t) = beside-all cs lent (λ i. w (suc i)) in
-    let bs = cutContainer (containerOf lent c) in (
+    let bs = cutRun (runOf lent c) in (
       atHead bs c ∷ map (behind (length bs)) ds,
       bs ++ rest,
       cons (head-beside lent rest c (w 0 c refl)) (behind-beside lent bs rest cs ds e),

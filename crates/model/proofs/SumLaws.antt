@@ -13,7 +13,7 @@ use Rattle.model.specs.Number.{knownIf, anyOf, number}
 use Rattle.model.specs.Object.{Object, fieldA, kindOf, Scalar, throughput, latency, scalar, kind, aggregated, role}
 use Rattle.model.specs.Constraint.{linkValue}
 use Rattle.model.specs.Update.{localValue, noValue, mustFit, overflows, widthOf, mostOf, updateObject, update}
-use Rattle.model.specs.Verdict.{containerOf}
+use Rattle.model.specs.Verdict.{runOf}
 use Rattle.model.specs.Conditions.{someHas}
 use Rattle.model.specs.Exact.{leafTests}
 use Rattle.model.specs.ReadBack.{SummedWhole, SumsWhole}
@@ -63,7 +63,7 @@ sums-whole own cs lent out p x ns e i o n s t r a =
     let c = x .candidate .neighbour in
     let none = leaves own cs lent out (p .unrefused) x .no-leaf .0 (p .noLeaf) in
     let free = none-at (λ o. anyOf (λ t. t o) (leafTests own c)) (x .objects) i o (neither (someHas (leafTests own c) (x .objects)) _ none .0) s in
-    let width = aggregates-whole (containerOf lent (x .candidate)) (x .objects) i o (x .read) s r .scalars in
+    let width = aggregates-whole (runOf lent (x .candidate)) (x .objects) i o (x .read) s r .scalars in
     let is : ns ≡ update own c (x .objects) = same-objects ns _ (sym e ∙ reads-back own cs lent out p x) in
     let at-i : some n ≡ some (updateObject own c o) = sym t ∙ rw is (at-map (updateObject own c) (x .objects) i o s) in
     let same : n ≡ updateObject own c o = cc in

@@ -13,12 +13,14 @@ use Rattle.model.specs.declared.Candidate.{Candidate}
 use Rattle.model.specs.declared.Verdict.the-variants.{Unbarred}
 use Rattle.model.specs.declared.Choice.the-variants.{Parent}
 use Rattle.model.specs.Number.{anyOf}
-use Rattle.model.specs.Object.{Object, container}
-use Rattle.model.specs.Reading.{wellFormed, reading}
-use Rattle.model.specs.Verdict.{containerOf, verdict, numberOf}
+use Rattle.model.specs.Object.{Object}
+use Rattle.model.specs.Reading.{wellFormed}
+use Rattle.model.specs.Run.{readRun, cutRun, joinedData}
+use Rattle.model.specs.Pack.{packed}
+use Rattle.model.specs.Verdict.{runOf, verdict, numberOf}
 use Rattle.model.specs.Update.{update, leafAnswer}
 use Rattle.model.specs.Choice.{currentOf, refusal, choose, bitsOf, nextHop, outgoing, parentOf, rankOf, answered, verdicts, choiceOf, sixteen, call}
-use Rattle.model.specs.Cut.{cut, cutContainer}
+use Rattle.model.specs.Cut.{cut}
 use Rattle.model.specs.Untouched.{PassedOn, passedOn}
 use Rattle.model.specs.Unknown.{Each, nil, cons, CutBeside, barredAt, holdsUnknown, SameAnswers, Demand3Holds}
 use Rattle.model.proofs.ListLaws.{map-at}
@@ -97,9 +99,9 @@ module _ (own : Own) (cs cs′ : List Candidate) (lent lent′ out out′ : List
     candidate : Candidate
     stands : getElem? cs position ≡ some candidate
     objects : List Object
-    read : reading (containerOf lent candidate) ≡ wellFormed objects
-    first : outgoing own cs lent (Parent position offer) ≡ nextHop (container (update own (candidate .neighbour) objects))
-    second : outgoing own cs′ lent′ (Parent position offer) ≡ nextHop (container (update own (candidate .neighbour) (cut objects)))
+    read : readRun (runOf lent candidate) ≡ wellFormed objects
+    first : outgoing own cs lent (Parent position offer) ≡ nextHop (packed (update own (candidate .neighbour) objects))
+    second : outgoing own cs′ lent′ (Parent position offer) ≡ nextHop (packed (update own (candidate .neighbour) (cut objects)))
 
   both-pass-on : PassedOn (call own cs lent out) → BothPassOn
   unfolding outgoing
@@ -109,7 +111,7 @@ module _ (own : Own) (cs cs′ : List Candidate) (lent lent′ out out′ : List
       let (c′, at′, x) = each-at (CutBeside lent lent′) cs cs′ beside i c at in
       let os = x .whole .objects in
       let z : leafAnswer own (c .neighbour) os ≡ 0 =
-      no-leaf (leafAnswer own (c .neighbour) os) (container (update own (c .neighbour) os)) (rw (first-is, e, at, x .whole .read) at (p .noLeaf)) in
+      no-leaf (leafAnswer own (c .neighbour) os) (packed (update own (c .neighbour) os)) (rw (first-is, e, at, x .whole .read) at (p .noLeaf)) in
       record {
         position = i;
         offer = r;
@@ -123,16 +125,16 @@ module _ (own : Own) (cs cs′ : List Candidate) (lent lent′ out out′ : List
       }
 
   passed-first : (p : PassedOn (call own cs lent out))
-      → passedOn (call own cs lent out) ≡ container (update own (both-pass-on p .candidate .neighbour) (both-pass-on p .objects))
+      → passedOn (call own cs lent out) ≡ packed (update own (both-pass-on p .candidate .neighbour) (both-pass-on p .objects))
   passed-first p = let d = both-pass-on p in rw (first-is, d .choice, d .first) (take-append-seam _ _)
 
   passes : anyOf (holdsUnknown lent) cs ≡ false → PassedOn (call own cs lent out)
-      → PassedOn (call own cs′ lent′ out′) × (cutContainer (passedOn (call own cs lent out)) ≡ passedOn (call own cs′ lent′ out′))
+      → PassedOn (call own cs′ lent′ out′) × (joinedData (cutRun (passedOn (call own cs lent out))) ≡ joinedData (passedOn (call own cs′ lent′ out′)))
   passes s p =
       let d = both-pass-on p in
       let e : choiceOf own cs′ lent′ ≡ Parent (d .position) (d .offer) = sym (same-choice s) ∙ d .choice in (
         record { unrefused = rw second-is; parent = rw (← same-answers s .parent) (p .parent); noLeaf = rw (second-is, e, d .second) },
-        rw (passed-first p, nextHop-cut own (d .candidate .neighbour) (d .objects), second-is, e, d .second) (sym (take-append-seam _ _)),
+        rw (passed-first p, nextHop-cut own (d .candidate .neighbour) (d .objects), second-is, e, d .second) (ap joinedData (sym (take-append-seam _ _))),
       )
 
 pub demand3 : Demand3Holds

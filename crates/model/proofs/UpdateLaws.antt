@@ -12,12 +12,14 @@ use Rattle.model.specs.Number.{firstOf}
 use Rattle.model.specs.Object.{Object, fieldA, join, container, Kind, unknown, lql, colour, node, scalar, Node, nsa, ne, hp, Scalar, throughput, latency, etx, known, kind, Role, constraint, recorded, aggregated, roleBits, roleOf, role}
 use Rattle.model.specs.Table.{row}
 use Rattle.model.specs.Update.{localValue, valueOr0, onTwo, clear0, clear1, combine1, aggregatedBody, constraintBody, addsNothing, nextBody, nextFlags, nextMode, updateObject, update, noEnergy, isBeyond, objectLeaf, tooLong, leafAnswer}
-use Rattle.model.specs.Cut.{mayHaveTlvs, cutBody, cutObject, keepIf, cut, cutContainer}
+use Rattle.model.specs.Cut.{mayHaveTlvs, cutBody, cutObject, keepIf, cut}
 use Rattle.model.proofs.NumberLaws.{first-zero}
 use Rattle.model.proofs.TypeLaws.{tlv-types}
 use Rattle.model.proofs.LeafLaws.{fits}
 use Rattle.model.proofs.CutLaws.{cutBody-whole, cutBody-byte0, cutBody-byte1}
-use Rattle.model.proofs.ReadingLaws.{cutContainer-container}
+use Rattle.model.proofs.PackLaws.{joined-cut, unpackable-cut}
+use Rattle.model.specs.Run.{cutRun, joinedData}
+use Rattle.model.specs.Pack.{packed}
 
 -- ---- the role stays
 
@@ -86,9 +88,9 @@ update-cut own c (o ∷ os) = go (known (kind o)) (update-cut own c os)
     go true ih = rw (updateObject-cut own c o, ih)
     go false ih = ih
 
--- the container for the next hop, once cut, is that for the cut objects
-pub nextHop-cut : (own : Own) (c : Neighbour) (os : List Object) → cutContainer (container (update own c os)) ≡ container (update own c (cut os))
-nextHop-cut own c os = cutContainer-container (update own c os) ∙ ap container (update-cut own c os)
+-- the joined data for the next hop, each container cut by itself, is that for the cut objects
+pub nextHop-cut : (own : Own) (c : Neighbour) (os : List Object) → joinedData (cutRun (packed (update own c os))) ≡ joinedData (packed (update own c (cut os)))
+nextHop-cut own c os = joined-cut (update own c os) ∙ ap (λ x. joinedData (packed x)) (update-cut own c os)
 
 -- ---- leaf answers
 
@@ -121,26 +123,8 @@ leaves-cut own c (o ∷ os) e = let (h, t) = first-zero (objectLeaf own c o) (fi
     go true h ih = rw (objectLeaf-cut own c o, h) ih
     go false h ih = ih
 
-cutBody-length : (r : Role) (t : Bool) (b : List ℕ) → length (cutBody r t b) ≤ length b
-cutBody-length constraint true b = rw length-take (omega arith)
-cutBody-length constraint false b = omega arith
-cutBody-length recorded t b = omega arith
-cutBody-length aggregated true b = rw length-take (omega arith)
-cutBody-length aggregated false b = omega arith
-
-cut-length : (os : List Object) → length (join (cut os)) ≤ length (join os)
-unfolding cut join
-cut-length [] = omega arith
-cut-length (o ∷ os) = go (known (kind o)) (cut-length os)
-  where
-    go : (b : Bool) → length (join (cut os)) ≤ length (join os) → length (join (keepIf b (cutObject o) (cut os))) ≤ length (join (o ∷ os))
-    go true ih = simp length-append (omega (arith, cutBody-length (role o) (mayHaveTlvs (o .type)) (o .body)))
-    go false ih = simp length-append (omega arith)
-
 pub leafAnswer-cut : (own : Own) (c : Neighbour) (os : List Object) → leafAnswer own c os ≡ 0 → leafAnswer own c (cut os) ≡ 0
 unfolding leafAnswer tooLong
 leafAnswer-cut own c os e =
     let (h, t) = first-zero (firstOf (objectLeaf own c) os) _ e in
-    let small = fits own c os e in
-    let less = cut-length (update own c os) in
-    rw (leaves-cut own c os h, ← update-cut own c os, le-ltb 255 (length (join (cut (update own c os)))) (omega arith))
+    rw (leaves-cut own c os h, ← update-cut own c os, unpackable-cut (update own c os) (fits own c os e))

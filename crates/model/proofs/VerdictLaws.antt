@@ -16,9 +16,10 @@ use Rattle.model.specs.declared.Candidate.{Candidate}
 use Rattle.model.specs.declared.Verdict.{Verdict}
 use Rattle.model.specs.declared.Verdict.the-variants.{Unbarred, Barred}
 use Rattle.model.specs.Object.{Object, join}
-use Rattle.model.specs.Reading.{Reading, refused, wellFormed, reading}
+use Rattle.model.specs.Reading.{Reading, refused, wellFormed}
+use Rattle.model.specs.Run.{readRun}
 use Rattle.model.specs.Rank.{infinite, resulting, rankTooHigh, aboveLowest}
-use Rattle.model.specs.Verdict.{isSecond, siteOutOfRange, offerOf, outOfRange, badNumbers, containerOf, outside, judgeReading, verdict, numberOf, isUnbarred}
+use Rattle.model.specs.Verdict.{isSecond, siteOutOfRange, offerOf, outOfRange, badNumbers, runOf, outside, judgeReading, verdict, numberOf, isUnbarred}
 use Rattle.model.specs.Number.{anyOf}
 use Rattle.model.specs.Conditions.{barsTo19, barsTo21, barredByNothing}
 use Rattle.model.proofs.BoolLaws.{neither}
@@ -33,7 +34,7 @@ pub record Admitted (own : Own) (lent : List ℕ) (c : Candidate) : Type 0 where
   pub inside : outside lent c ≡ false
   pub lowRank : rankTooHigh own (c .neighbour) ≡ false
   pub objects : List Object
-  pub read : reading (containerOf lent c) ≡ wellFormed objects
+  pub read : readRun (runOf lent c) ≡ wellFormed objects
 
 judged-read : (own : Own) (c : Neighbour) (r : Offer) (x : Reading) → judgeReading own c x ≡ Unbarred r → (os : List Object) × (x ≡ wellFormed os)
 judged-read own c r (refused n p) e = absurd (let z : _≡_ {A = ℕ} 0 1 = cc in omega arith)
@@ -47,8 +48,8 @@ module _ (own : Own) (lent : List ℕ) (c : Candidate) where
       let (x, y) = none-parts (barsTo19 own lent c) (rankTooHigh own (c .neighbour) ∷ aboveLowest own (c .neighbour) ∷ []) f in
       let (u, v) = neither (badNumbers own (c .neighbour)) _ x in
       let (s, t) = neither (outside lent c) _ v in
-      let h : judgeReading own (c .neighbour) (reading (containerOf lent c)) ≡ Unbarred r = rw (u, s) at e in
-      let (os, w) = judged-read own (c .neighbour) r (reading (containerOf lent c)) h in
+      let h : judgeReading own (c .neighbour) (readRun (runOf lent c)) ≡ Unbarred r = rw (u, s) at e in
+      let (os, w) = judged-read own (c .neighbour) r (readRun (runOf lent c)) h in
       record { judged = rw (← q) e; inRange = u; inside = s; lowRank = neither (rankTooHigh own (c .neighbour)) _ y .0; objects = os; read = w }
 
   pub admitted : isUnbarred (verdict own lent c) ≡ true → Admitted own lent c
@@ -74,21 +75,6 @@ module _ (own : Own) (lent : List ℕ) (c : Candidate) where
       go : (v : Verdict) → verdict own lent c ≡ v → eqb (numberOf v) 10 ≡ isUnbarred v
       go (Unbarred r) e = refl
       go (Barred n p) e = ne-eqb n 10 (λ z. never-10 own lent c p (e ∙ rw z))
-
--- ---- its container
-
--- byte 1 of a container of two bytes or more stands in the lent run
-byte-in-run : (lent : List ℕ) (c : Candidate) → 2 ≤ length (containerOf lent c) → getD (containerOf lent c) 1 0 ≡ getD lent (c .start + 1) 0
-byte-in-run lent c h =
-    let l = length-take (c .size) (drop (c .start) lent) in
-    getD-take (c .size) (drop (c .start) lent) 1 0 (omega arith) ∙ getD-drop (c .start) lent 1 0
-
--- a well-formed container in a run of bytes has 257 at most
-pub container-short : (lent : List ℕ) (c : Candidate) (os : List Object) → reading (containerOf lent c) ≡ wellFormed os → getD lent (c .start + 1) 0 ≤ 255 → length (containerOf lent c) ≤ 257
-container-short lent c os e b =
-    let w = reading-objects (containerOf lent c) os e .whole in
-    let l : length (containerOf lent c) ≡ suc (suc (length (join os))) = ap length w in
-    frame-short (containerOf lent c) (join os) w (rw (byte-in-run lent c (omega arith)) b) .1
 
 -- ---- the resulting rank
 

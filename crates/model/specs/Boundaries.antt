@@ -15,11 +15,12 @@ pub mod Cuts
 pub mod Bits
 pub mod Colours
 pub mod Editions
+pub mod Runs
 use Rattle.model.specs.Listing.{listing}
-use Rattle.model.specs.Cut.{cutContainer}
+use Rattle.model.specs.Run.{cutRun, joinedData}
 use Rattle.model.specs.Samples.{Holds, verdictOf, passedBy, outcomeOf}
 use Refusals.{refusals, refusedCalls, sizedRefusal, sizedOutcome}
-use Readings.{numbers, parts, frames, ends}
+use Readings.{numbers, parts, ends}
 use Shapes.{lengths, shapeVerdicts, tlvs, tlvVerdicts, uses}
 use Constraints.{unknowns, nodes, links, paths, wishes}
 use Ranks.{ranks}
@@ -30,20 +31,20 @@ use Choices.{choices, containers}
 use Places.{places, placeGiven}
 use Repeats.{repeats, barGiven}
 use Listings.{lines}
-use Cuts.{cuts}
+use Cuts.{cuts, joints}
 use Bits.{verdicts, refusals as currentBit, containers as ownBits}
 use Colours.{numbers as colourNumbers, lengths as colourLengths, uses as colourUses, links as colourLinks, bits as colourBits, bitVerdicts as colourBitVerdicts, leaves as colourLeaves, records as colourRecords, constraints as colourConstraints, lines as colourLines, cuts as colourCuts}
-use Editions.{refusals as editionRefusals, sites, siteVerdicts, earlier, compared, siteCriteria, contests, parents, outcomes}
+use Editions.{refusals as editionRefusals, sites, siteVerdicts, earlier, compared as comparedBy, siteCriteria, contests, parents, outcomes}
+use Runs.{ends as runEnds, steps, ninths, joins, places as runPlaces, outputs, fullest, fulls}
 
 -- the tables, each computed
 pub record Boundaries : Type 0 where
-  -- refusals 1 to 4
+  -- refusals 1 to 5
   pub refusing : Holds sizedRefusal refusals
   pub refused : Holds sizedOutcome refusedCalls
-  -- bars 11, 12, 13 and 14
+  -- bars 11, 12 and 14
   pub bar11 : Holds verdictOf numbers
   pub bar12 : Holds verdictOf parts
-  pub bar13 : Holds verdictOf frames
   pub bar14 : Holds verdictOf ends
   -- bars 15, 16 and 17
   pub bodies : Holds shapeVerdicts lengths
@@ -77,7 +78,8 @@ pub record Boundaries : Type 0 where
   -- the places of bars, the listing and the cut
   pub objectPlaces : Holds placeGiven places
   pub texts : Holds listing lines
-  pub cutting : Holds cutContainer cuts
+  pub cutting : Holds cutRun cuts
+  pub compared : Holds joinedData joints
   -- every bit beside the others
   pub bitVerdicts : Holds verdictOf verdicts
   pub bitRefusals : Holds sizedRefusal currentBit
@@ -92,11 +94,20 @@ pub record Boundaries : Type 0 where
   pub recordedColours : Holds passedBy colourRecords
   pub constraintColours : Holds passedBy colourConstraints
   pub colourTexts : Holds listing colourLines
-  pub cutColours : Holds cutContainer colourCuts
+  pub cutColours : Holds cutRun colourCuts
   -- editions 1 and 2
   pub refusal5 : Holds sizedRefusal editionRefusals
   pub bar11Sites : Holds siteVerdicts sites
   pub bar11Order : Holds verdictOf earlier
-  pub criteriaOf : Holds siteCriteria compared
+  pub criteriaOf : Holds siteCriteria comparedBy
   pub eachCriterion : Holds parents contests
   pub inEditions : Holds outcomeOf outcomes
+  -- runs of options: bars 22, 23 and 14, objects joined, and the output
+  pub bar22 : Holds verdictOf runEnds
+  pub stepped : Holds verdictOf steps
+  pub bar23 : Holds verdictOf ninths
+  pub joined : Holds verdictOf joins
+  pub joinedPlaces : Holds placeGiven runPlaces
+  pub packing : Holds passedBy outputs
+  pub eightFull : Holds passedBy fullest
+  pub ninthContainer : Holds leafGiven fulls

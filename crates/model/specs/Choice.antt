@@ -18,10 +18,11 @@ use Rattle.model.specs.declared.Choice.{Choice}
 use Rattle.model.specs.declared.Choice.the-variants.{Nobody, Parent}
 use Rattle.model.specs.declared.Answer.{Answer}
 use Rattle.model.specs.Number.{knownIf, satisfies, Case, _when_, firstCase}
-use Rattle.model.specs.Object.{container}
-use Rattle.model.specs.Reading.{noPlace, Reading, refused, wellFormed, reading}
+use Rattle.model.specs.Reading.{noPlace, Reading, refused, wellFormed}
+use Rattle.model.specs.Run.{readRun}
+use Rattle.model.specs.Pack.{packed}
 use Rattle.model.specs.Rank.{infinite}
-use Rattle.model.specs.Verdict.{containerOf, verdict, numberOf, placeOf}
+use Rattle.model.specs.Verdict.{runOf, verdict, numberOf, placeOf}
 use Rattle.model.specs.Update.{update, leafAnswer}
 
 -- ---- refusals
@@ -42,9 +43,9 @@ currentOf own = knownIf (own .flags / 16 % 2) (own .current)
 abbrev pub currentPast : Own → (count : ℕ) → Bool
 currentPast own n = satisfies (λ p. leb n p) (currentOf own)
 
--- 4: output shorter than 257 bytes
+-- 4: output shorter than 2,056 bytes
 abbrev pub shortOutput : (room : ℕ) → Bool
-shortOutput m = ltb m 257
+shortOutput m = ltb m 2056
 
 -- 5: edition other than 1 or 2
 abbrev pub badEdition : Own → Bool
@@ -118,12 +119,12 @@ unlessLeaf (suc n) bs = noContainer (suc n)
 -- for a parent whose container is read; a refused container has no unbarred candidate
 abbrev pub outgoingRead : Own → Neighbour → Reading → Outgoing
 outgoingRead own c (refused n i) = noContainer 0
-outgoingRead own c (wellFormed os) = unlessLeaf (leafAnswer own c os) (container (update own c os))
+outgoingRead own c (wellFormed os) = unlessLeaf (leafAnswer own c os) (packed (update own c os))
 
 -- for the candidate at the parent's position
 abbrev pub outgoingAt : Own → (lent : List ℕ) → Option Candidate → Outgoing
 outgoingAt own lent none = noContainer 0
-outgoingAt own lent (some c) = outgoingRead own (c .neighbour) (reading (containerOf lent c))
+outgoingAt own lent (some c) = outgoingRead own (c .neighbour) (readRun (runOf lent c))
 
 -- what the chosen parent has the node send on
 unfoldable pub outgoing : Own → List Candidate → (lent : List ℕ) → Choice → Outgoing

@@ -12,7 +12,8 @@ use Rattle.model.specs.declared.Own.{Own}
 use Rattle.model.specs.declared.Neighbour.{Neighbour}
 use Rattle.model.specs.declared.Summary.{Summary}
 use Rattle.model.specs.Object.{Object, bitO, bitC, bitR}
-use Rattle.model.specs.Reading.{reading, wellFormed, malformed}
+use Rattle.model.specs.Reading.{wellFormed, malformed}
+use Rattle.model.specs.Run.{readRun}
 use Rattle.model.specs.Constraint.{hasAll, unmet}
 use Rattle.model.specs.Update.{updateObject}
 
@@ -63,5 +64,5 @@ pub record Cleared (received sent : List ℕ) : Type 0 where
 
 -- of every constraint of type 8 in a well-formed container
 abbrev pub ClearsColour : Type 0
-ClearsColour = (own : Own) (c : Neighbour) (bs : List ℕ) (os : List Object) (i : ℕ) (o : Object) → reading bs ≡ wellFormed os → getElem? os i ≡ some o
+ClearsColour = (own : Own) (c : Neighbour) (bs : List ℕ) (os : List Object) (i : ℕ) (o : Object) → readRun bs ≡ wellFormed os → getElem? os i ≡ some o
     → o .type ≡ 8 → bitC o ≡ 1 → Cleared (o .body) (updateObject own c o .body)

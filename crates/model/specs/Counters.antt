@@ -8,7 +8,8 @@ use lib.ListN.{length, getD, getElem?, drop, set}
 use Rattle.model.specs.declared.Own.{Own}
 use Rattle.model.specs.declared.Neighbour.{Neighbour}
 use Rattle.model.specs.Object.{Object, recorded, role}
-use Rattle.model.specs.Reading.{wellFormed, reading}
+use Rattle.model.specs.Reading.{wellFormed}
+use Rattle.model.specs.Run.{readRun}
 use Rattle.model.specs.Update.{updateObject}
 
 -- a sub-object that counts links of one value
@@ -62,5 +63,5 @@ CountsColour = (own : Own) (c : Neighbour) (o : Object) → o .type ≡ 8 → ro
 
 -- in a well-formed container a recorded LQL has two bytes or more, and recorded colours an odd number of three or more, as those ask
 abbrev pub RecordsWhole : Type 0
-RecordsWhole = (bs : List ℕ) (os : List Object) (i : ℕ) (o : Object) → reading bs ≡ wellFormed os → getElem? os i ≡ some o → role o ≡ recorded
+RecordsWhole = (bs : List ℕ) (os : List Object) (i : ℕ) (o : Object) → readRun bs ≡ wellFormed os → getElem? os i ≡ some o → role o ≡ recorded
     → (o .type ≡ 6 → 2 ≤ length (o .body)) × (o .type ≡ 8 → (3 ≤ length (o .body)) × (length (o .body) % 2 ≡ 1))

@@ -1,4 +1,4 @@
--- Document 01's cut: a container without the objects of unknown type and without TLVs.
+-- Document 01's cut: the objects of a container without those of unknown type, and without TLVs.
 use Prim.Native.Nat.{ℕ}
 use mathlib.Core.Bool.{Bool, true, false, cond, _&&_}
 use mathlib.Core.List.{List, [], _∷_}
@@ -35,9 +35,3 @@ cut (o ∷ os) = keepIf (known (kind o)) (cutObject o) (cut os)
 abbrev pub cutData : Option (List Object) → List ℕ
 cutData none = []
 cutData (some os) = join (cut os)
-
--- byte 0 stays; D becomes the number of data bytes left
-unfoldable pub cutContainer : List ℕ → List ℕ
-cutContainer [] = []
-cutContainer (a ∷ []) = a ∷ []
-cutContainer (a ∷ d ∷ bs) = a ∷ length (cutData (split bs)) ∷ cutData (split bs)

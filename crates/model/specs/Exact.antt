@@ -19,12 +19,13 @@ use Rattle.model.specs.Object.{Object, bitO, bitC, bitR, fieldA, Standin
 use Rattle.model.specs.Table.{row}
 use Rattle.model.specs.Cut.{mayHaveTlvs}
 use Rattle.model.specs.Reading.{Reading, refused, wellFormed, reading, noPlace, misframed, runsPast, malformed, repeated, misused}
+use Rattle.model.specs.Run.{optionCut, ninthContainer, objectCut, readRun}
 use Rattle.model.specs.Constraint.{summary, unknownMandatory, unmet}
 use Rattle.model.specs.Rank.{infinite, rankTooHigh, aboveLowest}
-use Rattle.model.specs.Verdict.{badNumbers, offerOf, containerOf, outside, verdict}
+use Rattle.model.specs.Verdict.{badNumbers, offerOf, runOf, outside, verdict}
 use Rattle.model.specs.Update.{unknownAggregated, notAllowed, noValue, fullCount, overflows, tooLong}
 use Rattle.model.specs.Choice.{badOwn, tooMany, currentPast, shortOutput, badEdition, noParent, call}
-use Rattle.model.specs.Conditions.{someHas, objectsIn, objectBars, constraintBars, barsTo14, barsTo17, barsTo19, barsTo21}
+use Rattle.model.specs.Conditions.{someHas, objectsIn, containerObjects, objectBars, constraintBars, barsTo14, barsTo17, barsTo19, barsTo21}
 use Rattle.model.specs.Selection.{PreferredParent}
 
 -- none of some conditions holds
@@ -72,21 +73,25 @@ pub record RefusedAnswer (a : Answer) : Type 0 where
 abbrev pub RefusedAnswers : Type 0
 RefusedAnswers = (own : Own) (cs : List Candidate) (lent out : List ℕ) → (call own cs lent out .answer .refusal ≡ 0 → ⊥) → RefusedAnswer (call own cs lent out .answer)
 
--- ---- bars 11 to 21
+-- ---- bars 11 to 23
 
 -- bars 15 to 17 at the object of an index
 abbrev pub BarAt : Own → (lent : List ℕ) → Candidate → (lower : List (Standing → Bool)) → (Standing → Bool) → (place : ℕ) → Type 0
-BarAt own lent c lower bar place = NoneOf (barsTo14 own lent c) × FirstWith (standings [] (objectsIn (containerOf lent c))) objectBars lower bar place
+BarAt own lent c lower bar place = NoneOf (barsTo14 own lent c) × FirstWith (standings [] (objectsIn (runOf lent c))) objectBars lower bar place
 
 -- bars 18 and 19 at the object of an index
 abbrev pub ConstraintAt : Own → (lent : List ℕ) → Candidate → (lower : List (Object → Bool)) → (Object → Bool) → (place : ℕ) → Type 0
 ConstraintAt own lent c lower bar place =
     NoneOf (barsTo17 own lent c)
-    × FirstWith (objectsIn (containerOf lent c)) (constraintBars (c .neighbour) (summary (objectsIn (containerOf lent c)))) lower bar place
+    × FirstWith (objectsIn (runOf lent c)) (constraintBars (c .neighbour) (summary (objectsIn (runOf lent c)))) lower bar place
 
 -- bars 15 to 17 in a container by itself
 abbrev pub ReadingAt : List ℕ → (lower : List (Standing → Bool)) → (Standing → Bool) → (place : ℕ) → Type 0
-ReadingAt bs lower bar place = NoneOf (misframed bs ∷ runsPast bs ∷ []) × FirstWith (standings [] (objectsIn bs)) objectBars lower bar place
+ReadingAt bs lower bar place = NoneOf (misframed bs ∷ runsPast bs ∷ []) × FirstWith (standings [] (containerObjects bs)) objectBars lower bar place
+
+-- bars 15 to 17 in a run by itself
+abbrev pub RunAt : List ℕ → (lower : List (Standing → Bool)) → (Standing → Bool) → (place : ℕ) → Type 0
+RunAt bs lower bar place = NoneOf (optionCut bs ∷ ninthContainer bs ∷ objectCut bs ∷ []) × FirstWith (standings [] (objectsIn bs)) objectBars lower bar place
 
 -- when each bar is given, and when none is
 module _ (own : Own) (lent : List ℕ) (c : Candidate) where
@@ -96,11 +101,14 @@ module _ (own : Own) (lent : List ℕ) (c : Candidate) where
   abbrev pub When12 : Type 0
   When12 = FirstToHold (badNumbers own (c .neighbour) ∷ []) (outside lent c)
 
-  abbrev pub When13 : Type 0
-  When13 = FirstToHold (badNumbers own (c .neighbour) ∷ outside lent c ∷ []) (misframed (containerOf lent c))
+  abbrev pub When22 : Type 0
+  When22 = FirstToHold (badNumbers own (c .neighbour) ∷ outside lent c ∷ []) (optionCut (runOf lent c))
+
+  abbrev pub When23 : Type 0
+  When23 = FirstToHold (badNumbers own (c .neighbour) ∷ outside lent c ∷ optionCut (runOf lent c) ∷ []) (ninthContainer (runOf lent c))
 
   abbrev pub When14 : Type 0
-  When14 = FirstToHold (badNumbers own (c .neighbour) ∷ outside lent c ∷ misframed (containerOf lent c) ∷ []) (runsPast (containerOf lent c))
+  When14 = FirstToHold (badNumbers own (c .neighbour) ∷ outside lent c ∷ optionCut (runOf lent c) ∷ ninthContainer (runOf lent c) ∷ []) (objectCut (runOf lent c))
 
   abbrev pub When15 : (place : ℕ) → Type 0
   When15 = BarAt own lent c [] malformed
@@ -115,7 +123,7 @@ module _ (own : Own) (lent : List ℕ) (c : Candidate) where
   When18 = ConstraintAt own lent c [] unknownMandatory
 
   abbrev pub When19 : (place : ℕ) → Type 0
-  When19 = ConstraintAt own lent c (unknownMandatory ∷ []) (unmet (c .neighbour) (summary (objectsIn (containerOf lent c))))
+  When19 = ConstraintAt own lent c (unknownMandatory ∷ []) (unmet (c .neighbour) (summary (objectsIn (runOf lent c))))
 
   abbrev pub When20 : Type 0
   When20 = FirstToHold (barsTo19 own lent c) (rankTooHigh own (c .neighbour))
@@ -130,7 +138,8 @@ module _ (own : Own) (lent : List ℕ) (c : Candidate) where
 pub record VerdictExact (own : Own) (lent : List ℕ) (c : Candidate) (given : Verdict) : Type 0 where
   pub verdict-11 : (given ≡ Barred 11 noPlace) ↔ When11 own lent c
   pub verdict-12 : (given ≡ Barred 12 noPlace) ↔ When12 own lent c
-  pub verdict-13 : (given ≡ Barred 13 noPlace) ↔ When13 own lent c
+  pub verdict-22 : (given ≡ Barred 22 noPlace) ↔ When22 own lent c
+  pub verdict-23 : (given ≡ Barred 23 noPlace) ↔ When23 own lent c
   pub verdict-14 : (given ≡ Barred 14 noPlace) ↔ When14 own lent c
   pub verdict-15 : (place : ℕ) → (given ≡ Barred 15 place) ↔ When15 own lent c place
   pub verdict-16 : (place : ℕ) → (given ≡ Barred 16 place) ↔ When16 own lent c place
@@ -149,7 +158,9 @@ VerdictsExact = (own : Own) (lent : List ℕ) (c : Candidate) → VerdictExact o
 pub record BarExact (own : Own) (lent : List ℕ) (c : Candidate) (given : ℕ) : Type 0 where
   pub bar-11 : (given ≡ 11) ↔ When11 own lent c
   pub bar-12 : (given ≡ 12) ↔ When12 own lent c
-  pub bar-13 : (given ≡ 13) ↔ When13 own lent c
+  pub bar-22 : (given ≡ 22) ↔ When22 own lent c
+  pub bar-23 : (given ≡ 23) ↔ When23 own lent c
+  pub never-13 : given ≡ 13 → ⊥
   pub bar-14 : (given ≡ 14) ↔ When14 own lent c
   pub bar-15 : (given ≡ 15) ↔ ((place : ℕ) × When15 own lent c place)
   pub bar-16 : (given ≡ 16) ↔ ((place : ℕ) × When16 own lent c place)
@@ -173,11 +184,26 @@ pub record ReadingExact (bs : List ℕ) (given : Reading) : Type 0 where
   pub reading-16 : (place : ℕ) → (given ≡ refused 16 place) ↔ ReadingAt bs (malformed ∷ []) repeated place
   pub reading-17 : (place : ℕ) → (given ≡ refused 17 place) ↔ ReadingAt bs (malformed ∷ repeated ∷ []) misused place
   pub well-formed : (os : List Object) → (given ≡ wellFormed os)
-      ↔ (NoneOf (misframed bs ∷ runsPast bs ∷ someHas objectBars (standings [] (objectsIn bs)) ∷ []) × (objectsIn bs ≡ os))
+      ↔ (NoneOf (misframed bs ∷ runsPast bs ∷ someHas objectBars (standings [] (containerObjects bs)) ∷ []) × (containerObjects bs ≡ os))
 
 -- of any bytes
 abbrev pub ReadingsExact : Type 0
 ReadingsExact = (bs : List ℕ) → ReadingExact bs (reading bs)
+
+-- `given`: what reading a run by itself gives; bars 22, 23 and 14 to 17
+pub record RunExact (bs : List ℕ) (given : Reading) : Type 0 where
+  pub run-22 : (given ≡ refused 22 noPlace) ↔ FirstToHold [] (optionCut bs)
+  pub run-23 : (given ≡ refused 23 noPlace) ↔ FirstToHold (optionCut bs ∷ []) (ninthContainer bs)
+  pub run-14 : (given ≡ refused 14 noPlace) ↔ FirstToHold (optionCut bs ∷ ninthContainer bs ∷ []) (objectCut bs)
+  pub run-15 : (place : ℕ) → (given ≡ refused 15 place) ↔ RunAt bs [] malformed place
+  pub run-16 : (place : ℕ) → (given ≡ refused 16 place) ↔ RunAt bs (malformed ∷ []) repeated place
+  pub run-17 : (place : ℕ) → (given ≡ refused 17 place) ↔ RunAt bs (malformed ∷ repeated ∷ []) misused place
+  pub well-formed : (os : List Object) → (given ≡ wellFormed os)
+      ↔ (NoneOf (optionCut bs ∷ ninthContainer bs ∷ objectCut bs ∷ someHas objectBars (standings [] (objectsIn bs)) ∷ []) × (objectsIn bs ≡ os))
+
+-- of any bytes
+abbrev pub RunsExact : Type 0
+RunsExact = (bs : List ℕ) → RunExact bs (readRun bs)
 
 -- known types are 1 to 8
 abbrev pub KnownTypes : Type 0
@@ -209,7 +235,7 @@ pub record PathLimit (os : List Object) (type bit link limit : ℕ) (isUnmet : B
 
 -- of latency (type 5) and ETX (type 7), in any well-formed container; a throughput limit (type 4) is the link's, whatever stands beside it
 abbrev pub PathLimits : Type 0
-PathLimits = (c : Neighbour) (bs : List ℕ) (os : List Object) (l : Object) → reading bs ≡ wellFormed os → bitC l ≡ 1 → bitO l ≡ 0
+PathLimits = (c : Neighbour) (bs : List ℕ) (os : List Object) (l : Object) → readRun bs ≡ wellFormed os → bitC l ≡ 1 → bitO l ≡ 0
     → (l .type ≡ 5 → PathLimit os 5 (c .flags / 16 % 2) (c .latency) (number (l .body)) (unmet c (summary os) l))
     × (l .type ≡ 7 → PathLimit os 7 (c .flags / 8 % 2) (c .etx) (number (l .body)) (unmet c (summary os) l))
     × (l .type ≡ 4 → (unmet c (summary os) l ≡ false) ↔ ((c .flags / 32 % 2 ≡ 1) × (number (l .body) ≤ c .throughput)))

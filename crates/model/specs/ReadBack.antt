@@ -12,7 +12,8 @@ use Rattle.model.specs.declared.Neighbour.{Neighbour}
 use Rattle.model.specs.declared.Candidate.{Candidate}
 use Rattle.model.specs.Number.{isSet, isUnknown, number}
 use Rattle.model.specs.Object.{Object, bitP, bitC, bitO, bitR, fieldA, fieldPrec, isRecorded, Scalar, scalar, kind, aggregated, role, throughput, latency, etx, known}
-use Rattle.model.specs.Reading.{wellFormed, reading}
+use Rattle.model.specs.Reading.{wellFormed}
+use Rattle.model.specs.Run.{readRun}
 use Rattle.model.specs.Constraint.{linkValue}
 use Rattle.model.specs.Update.{widthOf, mostOf, updateObject}
 use Rattle.model.specs.Choice.{call}
@@ -23,7 +24,7 @@ use Rattle.model.specs.Untouched.{PassedOn, passedOn}
 -- the container passed on is well-formed, and holds the parent's objects, each updated
 abbrev pub ReadsBack : Type 0
 ReadsBack = (own : Own) (cs : List Candidate) (lent out : List ℕ) → PassedOn (call own cs lent out) → (p : PreferredParent own cs lent (call own cs lent out .answer))
-    → reading (passedOn (call own cs lent out)) ≡ wellFormed (map (updateObject own (p .candidate .neighbour)) (p .objects))
+    → readRun (passedOn (call own cs lent out)) ≡ wellFormed (map (updateObject own (p .candidate .neighbour)) (p .objects))
 
 -- header bits as received and as sent on: reserved bits are cleared, O when C=0, R when C=1; P is kept, or set; nothing else changes
 pub record HeaderNext (o p : Object) (setP : Bool) : Type 0 where
@@ -73,7 +74,7 @@ pub record SummedWhole (c : Neighbour) (received sent : Object) : Type 0 where
 -- of every one that is aggregated with A=0, by the container that a call passes on
 abbrev pub SumsWhole : Type 0
 SumsWhole = (own : Own) (cs : List Candidate) (lent out : List ℕ) → PassedOn (call own cs lent out) → (p : PreferredParent own cs lent (call own cs lent out .answer))
-    → (ns : List Object) → reading (passedOn (call own cs lent out)) ≡ wellFormed ns
+    → (ns : List Object) → readRun (passedOn (call own cs lent out)) ≡ wellFormed ns
     → (i : ℕ) (o n : Object) → getElem? (p .objects) i ≡ some o → getElem? ns i ≡ some n → role o ≡ aggregated → fieldA o ≡ 0
     → SummedWhole (p .candidate .neighbour) o n
 
@@ -114,7 +115,7 @@ pub record Whole (container : List ℕ) (o : Object) : Type 0 where
 
 -- of every aggregated metric of a well-formed container
 abbrev pub AggregatesWhole : Type 0
-AggregatesWhole = (bs : List ℕ) (os : List Object) (i : ℕ) (o : Object) → reading bs ≡ wellFormed os → getElem? os i ≡ some o → role o ≡ aggregated → Whole bs o
+AggregatesWhole = (bs : List ℕ) (os : List Object) (i : ℕ) (o : Object) → readRun bs ≡ wellFormed os → getElem? os i ≡ some o → role o ≡ aggregated → Whole bs o
 
 -- of bytes and of numbers within their types, bytes are passed on
 abbrev pub PassesBytes : Type 0

@@ -130,7 +130,7 @@ ascii (c then t) = code c ∷ ascii t
 
 -- the lent output: as short as it may be, none of its bytes a container's first
 abbrev pub output : List ℕ
-output = replicate 257 0xAA
+output = replicate 2056 0xAA
 
 -- ---- calls
 

@@ -14,9 +14,10 @@ use Rattle.model.specs.declared.Candidate.{Candidate}
 use Rattle.model.specs.declared.Answer.{Answer}
 use Rattle.model.specs.Number.{isSet, anyOf}
 use Rattle.model.specs.Object.{Object}
-use Rattle.model.specs.Reading.{noPlace, wellFormed, reading}
+use Rattle.model.specs.Reading.{noPlace, wellFormed}
+use Rattle.model.specs.Run.{readRun}
 use Rattle.model.specs.Rank.{infinite, resulting}
-use Rattle.model.specs.Verdict.{containerOf, verdict, numberOf, placeOf}
+use Rattle.model.specs.Verdict.{runOf, verdict, numberOf, placeOf}
 use Rattle.model.specs.Conditions.{barredByNothing}
 use Rattle.model.specs.Choice.{currentOf, noParent, call}
 
@@ -45,7 +46,7 @@ pub record PreferredParent (own : Own) (cs : List Candidate) (lent : List ℕ) (
   pub stands : getElem? cs (a .parent) ≡ some candidate
   pub unbarred : barredByNothing own lent candidate ≡ true
   pub objects : List Object
-  pub read : reading (containerOf lent candidate) ≡ wellFormed objects
+  pub read : readRun (runOf lent candidate) ≡ wellFormed objects
   pub rank : a .rank .0 ≡ resulting own (candidate .neighbour)
   pub finite : a .rank .0 < infinite
   pub rises : candidate .neighbour .rank .0 < a .rank .0

@@ -13,11 +13,12 @@ use Rattle.model.specs.declared.Verdict.the-variants.{Unbarred}
 use Rattle.model.specs.declared.Answer.{Answer}
 use Rattle.model.specs.Number.{anyOf}
 use Rattle.model.specs.Object.{Object, bitC, bitO, split, known, kind, recorded, role, isRecorded}
-use Rattle.model.specs.Reading.{wellFormed, reading}
+use Rattle.model.specs.Reading.{wellFormed}
+use Rattle.model.specs.Run.{runObjects, readRun, cutRun, joinedData}
 use Rattle.model.specs.Rank.{resulting}
-use Rattle.model.specs.Verdict.{containerOf, outside, verdict}
+use Rattle.model.specs.Verdict.{runOf, outside, verdict}
 use Rattle.model.specs.Choice.{Result, call}
-use Rattle.model.specs.Cut.{mayHaveTlvs, cutContainer}
+use Rattle.model.specs.Cut.{mayHaveTlvs}
 use Rattle.model.specs.Conditions.{objectsIn}
 use Rattle.model.specs.ReadBack.{HeaderNext}
 use Rattle.model.specs.Untouched.{PassedOn, passedOn}
@@ -29,18 +30,18 @@ pub data Each {A : Type 0} (R : A → A → Type 0) : List A → List A → Type
 
 -- ---- the two calls
 
--- document 01's word: a container is well-formed if it lies in the lent run and none of bars 13 to 17 holds of its bytes
+-- document 01's word: a container is well-formed if it lies in the lent run and none of bars 14 to 17, 22 and 23 holds of its bytes
 pub record WellFormed (lent : List ℕ) (c : Candidate) : Type 0 where
   pub inside : outside lent c ≡ false
   pub objects : List Object
-  pub read : reading (containerOf lent c) ≡ wellFormed objects
+  pub read : readRun (runOf lent c) ≡ wellFormed objects
 
 -- the candidate of the second call: its container is the first's, cut, anywhere in the second lent run; all other numbers stay
 pub record CutBeside (lent lent′ : List ℕ) (c c′ : Candidate) : Type 0 where
   pub whole : WellFormed lent c
   pub numbers : c′ .neighbour ≡ c .neighbour
   pub inside : outside lent′ c′ ≡ false
-  pub cut : containerOf lent′ c′ ≡ cutContainer (containerOf lent c)
+  pub cut : runOf lent′ c′ ≡ cutRun (runOf lent c)
 
 -- ---- places
 
@@ -60,9 +61,9 @@ pub record KeepsPlaces (cs : List Candidate) (lent : List ℕ) (r : Result) : Ty
   pub parent : Candidate
   pub stands : getElem? cs (r .answer .parent) ≡ some parent
   pub received : List Object
-  pub read : reading (containerOf lent parent) ≡ wellFormed received
+  pub read : readRun (runOf lent parent) ≡ wellFormed received
   pub next : List Object
-  pub splits : split (drop 2 (passedOn r)) ≡ some next
+  pub splits : runObjects (passedOn r) ≡ some next
   pub each : Each Placed received next
 
 -- ---- answers
@@ -77,7 +78,7 @@ isUnknownMandatory o = not (leb 1 (o .type) && leb (o .type) 8) && eqb (bitC o) 
 
 -- a candidate's container holds an unknown mandatory constraint
 abbrev pub holdsUnknown : (lent : List ℕ) → Candidate → Bool
-holdsUnknown lent c = anyOf isUnknownMandatory (objectsIn (containerOf lent c))
+holdsUnknown lent c = anyOf isUnknownMandatory (objectsIn (runOf lent c))
 
 -- parent, rank, verdict numbers, candidate bits and count are the same
 pub record SameAnswers (a a′ : Answer) : Type 0 where
@@ -101,7 +102,7 @@ pub record Demand3 (own : Own) (cs cs′ : List Candidate) (lent lent′ : List 
   -- if no candidate's container holds such a constraint, the answers are the same; if the first passes a container on, so does the
   -- second, and the first's container, once cut, equals the second's byte for byte
   pub same : anyOf (holdsUnknown lent) cs ≡ false → SameAnswers (r .answer) (r′ .answer)
-  pub passes : anyOf (holdsUnknown lent) cs ≡ false → PassedOn r → PassedOn r′ × (cutContainer (passedOn r) ≡ passedOn r′)
+  pub passes : anyOf (holdsUnknown lent) cs ≡ false → PassedOn r → PassedOn r′ × (joinedData (cutRun (passedOn r)) ≡ joinedData (passedOn r′))
   -- whenever the first passes a container on, the unknown objects and TLVs keep their places
   pub places : PassedOn r → KeepsPlaces cs lent r
 

@@ -1,8 +1,11 @@
 -- Demand 1: what a call leaves of the lent output.
 use mathlib.Core.Path.{_≡_}
-use Prim.Native.Nat.{ℕ, _+_}
+use Prim.Native.Nat.{ℕ, _≤_}
 use mathlib.Core.Bool.{true, false}
-use mathlib.Core.List.{List, _∷_}
+use mathlib.Core.List.{List, map}
+use lib.Dec.{ltb}
+use Rattle.model.specs.Number.{anyOf}
+use Rattle.model.specs.Run.{option, joinOptions}
 use lib.ListN.{length, take, drop}
 use Rattle.model.specs.declared.Own.{Own}
 use Rattle.model.specs.declared.Candidate.{Candidate}
@@ -25,8 +28,9 @@ pub record Untouched (out : List ℕ) (r : Result) : Type 0 where
   pub refused : (r .answer .refusal ≡ 0 → ⊥) → (r .output ≡ out) × (r .answer .size ≡ 0)
   pub nobody : hasParent (r .answer) ≡ false → (r .output ≡ out) × (r .answer .size ≡ 0)
   pub leaf : (r .answer .leaf ≡ 0 → ⊥) → (r .output ≡ out) × (r .answer .size ≡ 0)
-  -- otherwise only the first 2 + D' bytes change, and are a container with D' bytes of data
-  pub written : PassedOn r → (data′ : List ℕ) × (r .answer .size ≡ 2 + length data′) × (passedOn r ≡ 2 ∷ length data′ ∷ data′)
+  -- otherwise only the first bytes change, and are one to eight containers with at most 255 bytes of data each
+  pub written : PassedOn r → (ds : List (List ℕ)) × (passedOn r ≡ joinOptions (map (option 1) ds)) × (anyOf (λ d. ltb 255 (length d)) ds ≡ false) × (1 ≤ length ds) × (length ds ≤ 8)
+  pub length-all : PassedOn r → length (passedOn r) ≡ r .answer .size
   pub rest : drop (r .answer .size) (r .output) ≡ drop (r .answer .size) out
   pub size : length (r .output) ≡ length out
 

@@ -11,6 +11,7 @@ use Rattle.model.specs.declared.Neighbour.{Neighbour}
 use Rattle.model.specs.Number.{isSet, satisfies, isUnknown, number, bigEndian, Case, _when_, firstCase, first, firstOf}
 use Rattle.model.specs.Object.{Object, object, fieldA, join, Kind, unknown, lql, colour, node, scalar, Node, nsa, ne, hp, Scalar, throughput, latency, etx, known, kind, Role, constraint, recorded, aggregated, role, isAggregated, isConstraint, isHp}
 use Rattle.model.specs.Table.{row, allowed}
+use Rattle.model.specs.Pack.{unpackable}
 use Rattle.model.specs.Constraint.{energyIn, linkValue, colourIn}
 
 -- ---- local values
@@ -244,9 +245,9 @@ leafCases own c o = 31 when unknownAggregated o ∷ 32 when notAllowed o ∷ 33 
 unfoldable pub objectLeaf : Own → Neighbour → Object → ℕ
 objectLeaf own c o = firstCase (leafCases own c o)
 
--- 35: outgoing data would exceed 255 bytes
+-- 35: a single object too long, or a ninth container
 unfoldable pub tooLong : Own → Neighbour → List Object → Bool
-tooLong own c os = ltb 255 (length (join (update own c os)))
+tooLong own c os = unpackable (update own c os)
 
 -- document 01's leaf answer for a parent with these objects; 0 for none
 unfoldable pub leafAnswer : Own → Neighbour → List Object → ℕ

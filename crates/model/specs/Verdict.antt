@@ -11,7 +11,8 @@ use Rattle.model.specs.declared.Candidate.{Candidate}
 use Rattle.model.specs.declared.Verdict.{Verdict}
 use Rattle.model.specs.declared.Verdict.the-variants.{Unbarred, Barred}
 use Rattle.model.specs.Number.{firstOf, indexOf, Case, _when_, firstCase}
-use Rattle.model.specs.Reading.{noPlace, Reading, refused, wellFormed, reading}
+use Rattle.model.specs.Reading.{noPlace, Reading, refused, wellFormed}
+use Rattle.model.specs.Run.{readRun}
 use Rattle.model.specs.Constraint.{summary, constraintBar}
 use Rattle.model.specs.Rank.{resulting, rankTooHigh, aboveLowest}
 
@@ -31,11 +32,11 @@ isSecond own = eqb (own .edition) 2
 unfoldable pub badNumbers : Own → Neighbour → Bool
 badNumbers own c = outOfRange c || isSecond own && siteOutOfRange c
 
--- a candidate's container in the lent run
-abbrev pub containerOf : (lent : List ℕ) → Candidate → List ℕ
-containerOf lent c = take (c .size) (drop (c .start) lent)
+-- a candidate's run in the lent bytes
+abbrev pub runOf : (lent : List ℕ) → Candidate → List ℕ
+runOf lent c = take (c .size) (drop (c .start) lent)
 
--- bar 12: container not inside the lent bytes
+-- bar 12: run not inside the lent bytes
 abbrev pub outside : (lent : List ℕ) → Candidate → Bool
 outside lent c = ltb (length lent) (c .start + c .size)
 
@@ -69,14 +70,14 @@ abbrev pub judgeObjects : Own → Neighbour → (bar place : ℕ) → Verdict
 judgeObjects own c zero p = judgeRank own c (rankBar own c)
 judgeObjects own c (suc n) p = Barred (suc n) p
 
--- past bars 11 and 12, by what reading the container gives
+-- past bars 11 and 12, by what reading the run gives
 abbrev pub judgeReading : Own → Neighbour → Reading → Verdict
 judgeReading own c (refused n p) = Barred n p
 judgeReading own c (wellFormed os) = judgeObjects own c (firstOf (constraintBar c (summary os)) os) (indexOf (constraintBar c (summary os)) os)
 
--- document 01's verdict: 11 to 14 in order, then the first object with 15, 16 or 17, then the first with 18 or 19, then 20, 21
+-- documents 01 and 02's verdict: 11, 12, 22, 23, 14 in order, then the first object with 15, 16 or 17, then the first with 18 or 19, then 20, 21
 unfoldable pub verdict : Own → (lent : List ℕ) → Candidate → Verdict
-verdict own lent c = cond (badNumbers own (c .neighbour)) (Barred 11 noPlace) (cond (outside lent c) (Barred 12 noPlace) (judgeReading own (c .neighbour) (reading (containerOf lent c))))
+verdict own lent c = cond (badNumbers own (c .neighbour)) (Barred 11 noPlace) (cond (outside lent c) (Barred 12 noPlace) (judgeReading own (c .neighbour) (readRun (runOf lent c))))
 
 -- the number of a verdict: 10 for an unbarred candidate
 abbrev pub numberOf : Verdict → ℕ

@@ -15,7 +15,7 @@ use Rattle.model.specs.declared.Verdict.the-variants.{Barred}
 use Rattle.model.specs.Object.{Object, before, split, standings}
 use Rattle.model.specs.Reading.{misframed, isNone, runsPast, reading, wellFormed}
 use Rattle.model.specs.Constraint.{summary}
-use Rattle.model.specs.Verdict.{isSecond, outOfRange, siteOutOfRange, badNumbers, containerOf, outside, verdict, numberOf}
+use Rattle.model.specs.Verdict.{isSecond, outOfRange, siteOutOfRange, badNumbers, runOf, outside, verdict, numberOf}
 use Rattle.model.specs.Conditions.{someHas, objectsIn, objectBars}
 use Rattle.model.specs.Exact.{NoneOf}
 use Rattle.model.proofs.BoolLaws.{neither}
@@ -139,7 +139,7 @@ overrun-breaks bs = from-breaks (suc (length bs)) bs firstCursor 0 (omega arith)
 
 module _ (own : Own) (lent : List ℕ) (c : Candidate) where
   abbrev bs : List ℕ
-  bs = containerOf lent c
+  bs = runOf lent c
 
   abbrev to12 : List Bool
   to12 = badNumbers own (c .neighbour) ∷ outside lent c ∷ []
@@ -235,7 +235,7 @@ nothing-else own lent c = (
 
 pub flags-hold : FlagsHold
 unfolding findingOf
-flags-hold own lent c p os o e r k = rw e (same (objectsIn (containerOf lent c)) (at-19 own lent c p e))
+flags-hold own lent c p os o e r k = rw e (same (objectsIn (runOf lent c)) (at-19 own lent c p e))
   where
     same : (ts : List Object) → At19 own lent c p ts
         → holdsOf (c .neighbour) (summary os) (o .body) (barFinding own c 19 p lent) ≡ true

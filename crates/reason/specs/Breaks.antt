@@ -16,7 +16,7 @@ use Rattle.model.specs.Number.{isSet, isUnknown, anyOf}
 use Rattle.model.specs.Object.{Object}
 use Rattle.model.specs.Reading.{reading, wellFormed}
 use Rattle.model.specs.Constraint.{summary, hasAll}
-use Rattle.model.specs.Verdict.{containerOf, verdict}
+use Rattle.model.specs.Verdict.{runOf, verdict}
 use Rattle.reason.specs.declared.findings.Finding.{Finding}
 use Rattle.reason.specs.Finding.{nothing, findingOf}
 
@@ -83,4 +83,4 @@ holdsOf c s b f =
 -- of every candidate that is barred by 19, at the object that bars it
 abbrev pub FlagsHold : Type 0
 FlagsHold = (own : Own) (lent : List ℕ) (c : Candidate) (p : ℕ) (os : List Object) (o : Object) → verdict own lent c ≡ Barred 19 p
-    → reading (containerOf lent c) ≡ wellFormed os → getElem? os p ≡ some o → holdsOf (c .neighbour) (summary os) (o .body) (findingOf own c lent) ≡ true
+    → reading (runOf lent c) ≡ wellFormed os → getElem? os p ≡ some o → holdsOf (c .neighbour) (summary os) (o .body) (findingOf own c lent) ≡ true

@@ -17,7 +17,7 @@ use Rattle.model.specs.Number.{isSet}
 use Rattle.model.specs.Object.{Object}
 use Rattle.model.specs.Reading.{Reading, refused, wellFormed, reading}
 use Rattle.model.specs.Constraint.{isAggregator, summary, colourIn}
-use Rattle.model.specs.Verdict.{isSecond, containerOf, outside, verdict}
+use Rattle.model.specs.Verdict.{isSecond, runOf, outside, verdict}
 use Rattle.wire.specs.declared.objects.Cursor.{Cursor}
 use Rattle.wire.specs.declared.objects.Step.{Step}
 use Rattle.wire.specs.declared.objects.Step.the-variants.{Found, CutShort, End}
@@ -159,7 +159,7 @@ containerFinding c n p bs = cond (eqb n 13) (frameFinding bs) (cond (eqb n 14) (
 -- bar 11, then 12, then those
 unfoldable pub barFinding : Own → Candidate → (number place : ℕ) → (lent : List ℕ) → Finding
 barFinding own c n p lent =
-    cond (eqb n 11) (rangeFinding own (c .neighbour)) (cond (outside lent c) (outsideFinding c (length lent)) (containerFinding (c .neighbour) n p (containerOf lent c)))
+    cond (eqb n 11) (rangeFinding own (c .neighbour)) (cond (outside lent c) (outsideFinding c (length lent)) (containerFinding (c .neighbour) n p (runOf lent c)))
 
 -- by the verdict
 abbrev pub verdictFinding : Own → Candidate → (lent : List ℕ) → Verdict → Finding

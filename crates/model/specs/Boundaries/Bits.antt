@@ -57,7 +57,7 @@ verdicts =
 
 -- own flags: the current parent 0x10
 abbrev pub refusals : List (Example Sized ℕ)
-refusals = sized (ownWith 256 0 0 0 0xFF 0 1) 1 257 gives 3 ∷ sized (ownWith 256 0 0 0 0xEF 0 1) 1 257 gives 0 ∷ []
+refusals = sized (ownWith 256 0 0 0 0xFF 0 1) 1 2056 gives 3 ∷ sized (ownWith 256 0 0 0 0xEF 0 1) 1 2056 gives 0 ∷ []
 
 -- own flags in what is passed on: energy 0x04, and NSA's two
 abbrev pub containers : List (Example Calling (List ℕ))

@@ -45,7 +45,7 @@ choices =
     ∷ among (ownWith 256 0 0 0 0x00 0 2) (at 300 ∷ at 100 ∷ at 100 ∷ []) gives chosen 1 356 (judged 13 (10 ∷ 10 ∷ 10 ∷ [])) 0b111 3 empty
     -- barred candidates of lower rank, and their bits
     ∷ among own0 (at 300 ∷ candidate (ranked 100 1 10 0) 0 2 ∷ at 200 ∷ []) gives chosen 2 456 (judged 13 (10 ∷ 11 ∷ 10 ∷ [])) 0b101 2 empty
-    ∷ among own0 (candidate (ranked 0 1 1 0) 1 2 ∷ candidate (ranked 0 1 1 0) 0 1 ∷ at 300 ∷ []) gives chosen 2 556 (judged 13 (12 ∷ 13 ∷ 10 ∷ [])) 0b100 1 empty
+    ∷ among own0 (candidate (ranked 0 1 1 0) 1 2 ∷ candidate (ranked 0 1 1 0) 0 1 ∷ at 300 ∷ []) gives chosen 2 556 (judged 13 (12 ∷ 22 ∷ 10 ∷ [])) 0b100 1 empty
     -- 16 candidates
     ∷ among own0 (replicate 16 (at 100)) gives chosen 0 356 (replicate 16 10) 0xFFFF 16 empty
     ∷ among (ownCurrent 15) (replicate 16 (at 100)) gives chosen 15 356 (replicate 16 10) 0xFFFF 16 empty
@@ -81,9 +81,10 @@ containers =
     ∷ over own0 (candidate (ranked 100 1 1 0) 0 8 ∷ candidate (ranked 200 1 1 0) 8 6 ∷ [])
     gives chosen 0 356 (judged 14 (10 ∷ 10 ∷ [])) 0b11 2 (0x02 ∷ 0x06 ∷ 0x03 ∷ 0x00 ∷ 0x00 ∷ 0x02 ∷ 0x00 ∷ 0x04 ∷ [])
     ∷ over own0 (candidate (ranked 200 1 1 0) 0 8 ∷ candidate (ranked 100 1 1 0) 8 6 ∷ []) gives stopped 1 356 (judged 14 (10 ∷ 10 ∷ [])) 0b11 2 31
-    -- containers that overlap: one reads across the others and is barred
-    ∷ over own0 (candidate (ranked 200 1 1 0) 0 8 ∷ candidate (ranked 100 1 1 0) 0 14 ∷ [])
-    gives chosen 0 456 (judged 14 (10 ∷ 13 ∷ [])) 0b1 1 (0x02 ∷ 0x06 ∷ 0x03 ∷ 0x00 ∷ 0x00 ∷ 0x02 ∷ 0x00 ∷ 0x04 ∷ [])
-    -- malformed beside well-formed containers
-    ∷ over own0 (candidate (ranked 100 1 1 0) 24 4 ∷ candidate (ranked 100 1 1 0) 20 7 ∷ candidate (ranked 100 1 1 0) 20 9 ∷ []) gives nobody (judged 13 (13 ∷ 13 ∷ 12 ∷ []))
+    -- runs that overlap: one reads both containers, one across a container's end
+    ∷ over own0 (candidate (ranked 200 1 1 0) 0 8 ∷ candidate (ranked 100 1 1 0) 0 14 ∷ []) gives stopped 1 356 (judged 14 (10 ∷ 10 ∷ [])) 0b11 2 31
+    ∷ over own0 (candidate (ranked 200 1 1 0) 0 8 ∷ candidate (ranked 100 1 1 0) 0 13 ∷ [])
+    gives chosen 0 456 (judged 14 (10 ∷ 22 ∷ [])) 0b1 1 (0x02 ∷ 0x06 ∷ 0x03 ∷ 0x00 ∷ 0x00 ∷ 0x02 ∷ 0x00 ∷ 0x04 ∷ [])
+    -- malformed beside well-formed runs
+    ∷ over own0 (candidate (ranked 100 1 1 0) 24 4 ∷ candidate (ranked 100 1 1 0) 20 7 ∷ candidate (ranked 100 1 1 0) 20 9 ∷ []) gives nobody (judged 13 (14 ∷ 22 ∷ 12 ∷ []))
     ∷ []

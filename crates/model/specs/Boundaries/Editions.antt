@@ -19,23 +19,23 @@ zeroed m = ownAs 0 m 0 0 0 0x00 0 0
 
 abbrev pub refusals : List (Example Sized ℕ)
 refusals =
-    sized (ownIn 0 0x00 0) 1 257 gives 5
-    ∷ sized (ownIn 1 0x00 0) 1 257 gives 0
-    ∷ sized (ownIn 2 0x00 0) 1 257 gives 0
-    ∷ sized (ownIn 3 0x00 0) 1 257 gives 5
-    ∷ sized (ownIn 255 0x00 0) 1 257 gives 5
+    sized (ownIn 0 0x00 0) 1 2056 gives 5
+    ∷ sized (ownIn 1 0x00 0) 1 2056 gives 0
+    ∷ sized (ownIn 2 0x00 0) 1 2056 gives 0
+    ∷ sized (ownIn 3 0x00 0) 1 2056 gives 5
+    ∷ sized (ownIn 255 0x00 0) 1 2056 gives 5
     -- 130 is 2 in its low seven bits; without a candidate too
-    ∷ sized (ownIn 130 0x00 0) 1 257 gives 5
-    ∷ sized (ownIn 3 0x00 0) 0 257 gives 5
+    ∷ sized (ownIn 130 0x00 0) 1 2056 gives 5
+    ∷ sized (ownIn 3 0x00 0) 0 2056 gives 5
     -- after 4, 3, 2 and 1
-    ∷ sized (ownIn 3 0x00 0) 1 256 gives 4
-    ∷ sized (ownIn 3 0x10 1) 1 257 gives 3
-    ∷ sized (ownIn 3 0x00 0) 17 257 gives 2
-    ∷ sized (zeroed 0) 1 257 gives 1
-    ∷ sized (zeroed 1) 1 257 gives 5
+    ∷ sized (ownIn 3 0x00 0) 1 2055 gives 4
+    ∷ sized (ownIn 3 0x10 1) 1 2056 gives 3
+    ∷ sized (ownIn 3 0x00 0) 17 2056 gives 2
+    ∷ sized (zeroed 0) 1 2056 gives 1
+    ∷ sized (zeroed 1) 1 2056 gives 5
     -- edition 2 has the refusals before it too
-    ∷ sized (ownIn 2 0x00 0) 1 256 gives 4
-    ∷ sized (ownIn 2 0x10 1) 1 257 gives 3
+    ∷ sized (ownIn 2 0x00 0) 1 2055 gives 4
+    ∷ sized (ownIn 2 0x10 1) 1 2056 gives 3
     ∷ []
 
 -- ---- bar 11

@@ -4,7 +4,7 @@ use mathlib.Core.List.{List, [], _∷_, _++_, map}
 use lib.ListN.{replicate}
 use Rattle.model.specs.declared.Own.{Own}
 use Rattle.model.specs.declared.Neighbour.{Neighbour}
-use Rattle.model.specs.Samples.{Example, _gives_, own0, ownNode, neighbour0, linkOf, etxOf, latencyOf, throughputOf, lqlOf, one, Calling, hop, resultOf, Outcome, stopped}
+use Rattle.model.specs.Samples.{Example, _gives_, own0, ownNode, neighbour0, linkOf, etxOf, latencyOf, throughputOf, lqlOf, holding, one, Calling, single, hop, resultOf, Outcome, stopped}
 
 abbrev pub leafGiven : Calling → ℕ
 leafGiven w = resultOf w .answer .leaf
@@ -128,41 +128,45 @@ sums =
     ∷ hop own0 (latencyOf 1) (one 3 0x00 0x00 (0x00 ∷ 254 ∷ []) ++ one 5 0x00 0x00 (replicate 4 0xFF)) gives 36
     ∷ []
 
--- ---- 35
+-- ---- 35: a single object too long; a ninth container stands with the runs
 
 -- a recorded object of unknown type, and behind it another object
 abbrev pub behind : (filler : ℕ) → (data′ : List ℕ) → List ℕ
 behind n bs = one 200 0x00 0x80 (replicate n 0x00) ++ bs
 
+-- a recorded metric with so many zeros in its body, alone
+abbrev pub zeros : (type size : ℕ) → List ℕ
+zeros t n = one t 0x00 0x80 (replicate n 0x00)
+
 abbrev pub long : List (Example Calling ℕ)
 long =
-    -- recorded ETX, 6 bytes, leaves with 8: 4 + 243 + 8 = 255, and 256
-    hop own0 (etxOf 128) (behind 243 (one 7 0x00 0x80 (0x00 ∷ 0x80 ∷ []))) gives 0
-    ∷ hop own0 (etxOf 128) (behind 244 (one 7 0x00 0x80 (0x00 ∷ 0x80 ∷ []))) gives 35
-    ∷ hop own0 (etxOf 128) (behind 245 (one 7 0x00 0x80 (0x00 ∷ 0x80 ∷ []))) gives 35
-    -- if unknown, it doesn't grow: 4 + 245 + 6 = 255
-    ∷ hop own0 neighbour0 (behind 245 (one 7 0x00 0x80 (0x00 ∷ 0x80 ∷ []))) gives 0
-    -- recorded throughput, 8 bytes, leaves with 12: 4 + 239 + 12 = 255, and 256
-    ∷ hop own0 (throughputOf 1) (behind 239 (one 4 0x00 0x80 (replicate 4 0x00))) gives 0
-    ∷ hop own0 (throughputOf 1) (behind 240 (one 4 0x00 0x80 (replicate 4 0x00))) gives 35
-    -- recorded NE grows with unknown energy too: 4 + 243 + 8 = 255, and 256
-    ∷ hop own0 neighbour0 (behind 243 (one 2 0x00 0x80 (0x00 ∷ 0x00 ∷ []))) gives 0
-    ∷ hop own0 neighbour0 (behind 244 (one 2 0x00 0x80 (0x00 ∷ 0x00 ∷ []))) gives 35
-    -- recorded LQL that counts doesn't grow; that adds does: 4 + 245 + 6 = 255, 4 + 244 + 7 = 255, and 256
-    ∷ hop own0 (lqlOf 2) (behind 245 (one 6 0x00 0x80 (0x00 ∷ 0x45 ∷ []))) gives 0
-    ∷ hop own0 (lqlOf 3) (behind 244 (one 6 0x00 0x80 (0x00 ∷ 0x45 ∷ []))) gives 0
-    ∷ hop own0 (lqlOf 3) (behind 245 (one 6 0x00 0x80 (0x00 ∷ 0x45 ∷ []))) gives 35
-    -- recorded ETX alone: 4 + 248 + 2 = 254, and 256
-    ∷ hop own0 (etxOf 128) (one 7 0x00 0x80 (replicate 248 0x00)) gives 0
-    ∷ hop own0 (etxOf 128) (one 7 0x00 0x80 (replicate 250 0x00)) gives 35
+    -- a single object of 255 bytes, and of 256: recorded ETX grows by 2, if it is known
+    hop own0 (etxOf 128) (zeros 7 248) gives 0
+    ∷ hop own0 (etxOf 128) (zeros 7 250) gives 35
+    ∷ hop own0 neighbour0 (zeros 7 250) gives 0
+    -- recorded throughput and latency by 4
+    ∷ hop own0 (throughputOf 1) (zeros 4 244) gives 0
+    ∷ hop own0 (throughputOf 1) (zeros 4 248) gives 35
+    ∷ hop own0 (latencyOf 1) (zeros 5 244) gives 0
+    ∷ hop own0 (latencyOf 1) (zeros 5 248) gives 35
+    -- recorded NE by 2, with unknown energy too
+    ∷ hop own0 neighbour0 (zeros 2 248) gives 0
+    ∷ hop own0 neighbour0 (zeros 2 250) gives 35
+    -- recorded LQL that counts doesn't grow; that adds does, by 1: 4 + 250 + 1 = 255, and 256
+    ∷ hop own0 (lqlOf 2) (one 6 0x00 0x80 (0x00 ∷ replicate 250 0x45)) gives 0
+    ∷ hop own0 (lqlOf 3) (one 6 0x00 0x80 (0x00 ∷ replicate 249 0x45)) gives 0
+    ∷ hop own0 (lqlOf 3) (one 6 0x00 0x80 (0x00 ∷ replicate 250 0x45)) gives 35
     -- nothing grows: 4 + 251 = 255
     ∷ hop own0 neighbour0 (behind 251 []) gives 0
-    -- behind 36 too: recorded latency, 8 bytes, leaves with 12: 4 + 231 + 12 + 8 = 255, and 256
-    ∷ hop own0 (linkOf 0x30 0 0 1 1) (behind 231 (one 5 0x00 0x80 (replicate 4 0xFF) ++ one 4 0x00 0x00 (0xFF ∷ 0xFF ∷ 0xFF ∷ 0xFE ∷ []))) gives 0
-    ∷ hop own0 (linkOf 0x30 0 0 1 1) (behind 232 (one 5 0x00 0x80 (replicate 4 0xFF) ++ one 4 0x00 0x00 (0xFF ∷ 0xFF ∷ 0xFF ∷ 0xFE ∷ []))) gives 35
-    ∷ hop own0 (linkOf 0x30 0 0 1 1) (behind 232 (one 5 0x00 0x80 (replicate 4 0xFF) ++ one 4 0x00 0x00 (replicate 4 0xFF))) gives 36
-    -- behind 34, wherever it stands
-    ∷ hop own0 (etxOf 128) (behind 239 (one 7 0x00 0x80 (0x00 ∷ 0x80 ∷ []) ++ one 3 0x00 0x00 (0x00 ∷ 255 ∷ []))) gives 34
+    -- two objects of more than 255 bytes together are none too long
+    ∷ hop own0 (etxOf 128) (behind 244 (one 7 0x00 0x80 (0x00 ∷ 0x80 ∷ []))) gives 0
+    ∷ hop own0 (etxOf 128) (behind 245 (one 7 0x00 0x80 (0x00 ∷ 0x80 ∷ []))) gives 0
+    -- first or last; behind 36 and 34, wherever they stand
+    ∷ single own0 (etxOf 128) (holding (zeros 7 250) ++ holding (behind 251 [])) gives 35
+    ∷ single own0 (etxOf 128) (holding (behind 251 []) ++ holding (zeros 7 250)) gives 35
+    ∷ single own0 (linkOf 0x38 0 1 1 1) (holding (zeros 7 250) ++ holding (one 4 0x00 0x00 (0xFF ∷ 0xFF ∷ 0xFF ∷ 0xFE ∷ []))) gives 35
+    ∷ single own0 (linkOf 0x38 0 1 1 1) (holding (zeros 7 250) ++ holding (one 4 0x00 0x00 (replicate 4 0xFF))) gives 36
+    ∷ single own0 (etxOf 128) (holding (zeros 7 250) ++ holding (one 3 0x00 0x00 (0x00 ∷ 255 ∷ []))) gives 34
     ∷ []
 
 -- ---- all that a call with a leaf answer tells
@@ -179,5 +183,5 @@ leafCalls =
     ∷ hop own0 neighbour0 (one 3 0x00 0x00 (0x00 ∷ 255 ∷ [])) gives leafOnly 34
     ∷ hop own0 (throughputOf 1) (one 4 0x00 0x00 (replicate 4 0xFF)) gives leafOnly 36
     ∷ hop own0 (latencyOf 1) (one 5 0x00 0x00 (replicate 4 0xFF)) gives leafOnly 36
-    ∷ hop own0 (etxOf 128) (behind 244 (one 7 0x00 0x80 (0x00 ∷ 0x80 ∷ []))) gives leafOnly 35
+    ∷ hop own0 (etxOf 128) (zeros 7 250) gives leafOnly 35
     ∷ []
