@@ -27,7 +27,7 @@ misframed-at a d bs =
     let l : suc (suc (length bs)) - 2 ≡ length bs = omega arith in
     rw (s, l)
 
-framed : (bs : List ℕ) → misframed bs ≡ false → bs ≡ 2 ∷ length (drop 2 bs) ∷ drop 2 bs
+pub framed : (bs : List ℕ) → misframed bs ≡ false → bs ≡ 2 ∷ length (drop 2 bs) ∷ drop 2 bs
 unfolding misframed
 framed [] e = cc
 framed (a ∷ []) e = cc

@@ -16,6 +16,7 @@ pub mod Selection
 pub mod Exact
 pub mod Untouched
 pub mod RoundTrip
+pub mod Runs
 pub mod ReadBack
 pub mod Counters
 pub mod Colours
