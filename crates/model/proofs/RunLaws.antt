@@ -197,7 +197,7 @@ run-cut bs os e =
 
 -- ---- a run that is one container
 
-joined-nil : (r : Option (List Object)) → joined r (some []) ≡ r
+pub joined-nil : (r : Option (List Object)) → joined r (some []) ≡ r
 joined-nil none = refl
 joined-nil (some os) = ap some (append-nil os)
 

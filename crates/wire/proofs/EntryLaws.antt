@@ -1,5 +1,5 @@
 -- Options by their size, and what they lead to from an index of a run on.
-use mathlib.Core.Path.{_≡_, refl, sym, ap, _∙_}
+use mathlib.Core.Path.{_≡_, refl, sym, _∙_}
 use Prim.Native.Nat.{ℕ, zero, suc, _+_, _-_, _≤_, _<_}
 use native.Mathlib.Nat.{add-zero, not-suc-le-zero}
 use native.Mathlib.Omega.{arith}
@@ -9,7 +9,6 @@ use lib.ListN.{length, drop, getD, length-drop, drop-of-length-le}
 use lib.Seq.{drop-cons, drop-drop, getD-drop}
 use lib.Dec.{leb, ltb, eqb}
 use borrow.Author.Tests.{le-leb, lt-leb, leb-true}
-use Rattle.wire.specs.declared.options.Entry.{Entry}
 use Rattle.wire.specs.declared.options.Entry.the-variants.{Into, Short, Nothing}
 use Rattle.wire.specs.Entry.{optionSize, entryBy, entryUpTo, entryAt}
 

@@ -5,6 +5,7 @@ pub mod StepLaws
 pub mod WalkLaws
 pub mod EntryLaws
 pub mod StartLaws
+pub mod RunWalkLaws
 pub mod TlvLaws
 pub mod BodyLaws
 pub mod BarLaws

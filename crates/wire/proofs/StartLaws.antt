@@ -6,7 +6,6 @@ use mathlib.Core.List.{List}
 use lib.ListN.{length}
 use Rattle.model.specs.Reading.{misframed}
 use Rattle.wire.specs.declared.objects.Cursor.{Cursor}
-use Rattle.wire.specs.declared.options.Start.{Start}
 use Rattle.wire.specs.Step.{firstCursor}
 use Rattle.wire.specs.Start.{startOf}
 

@@ -1,8 +1,8 @@
 pub mod Number
 pub mod Step
-pub mod Walk
 pub mod Entry
 pub mod Start
+pub mod Walk
 pub mod Row
 pub mod Reading
 pub mod Put
