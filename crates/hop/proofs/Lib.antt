@@ -3,3 +3,4 @@ pub mod PackingLaws
 pub mod BodyLaws
 pub mod PlanLaws
 pub mod BuildLaws
+pub mod SendLaws

@@ -110,7 +110,7 @@ module _ {f : Filled} {os : List Object} (p : Packs f os) where
       groups = p .groups ++ (p .held ∷ []);
       held = o ∷ [];
       so-far = λ rest. ap pack (append-assoc os (o ∷ []) rest) ∙ p .so-far (o ∷ rest) ∙ ap (λ gs. p .groups ++ gs) (pack-next (p .held) o rest (omega (arith, p .fill)))
-      ∙ sym (append-assoc (p .groups) (p .held ∷ []) (packFrom (o ∷ []) rest));
+          ∙ sym (append-assoc (p .groups) (p .held ∷ []) (packFrom (o ∷ []) rest));
       closed = omega (arith, p .closed, length-append (p .groups) (p .held ∷ []));
       frame = omega (arith, p .frame, p .fill, size-one (p .groups) (p .held));
       fill = e ∙ ap length (sym (append-nil (bytesOf o)));
@@ -152,7 +152,7 @@ no-room os o u = go (anyOf isOverlong os) refl (ltb 8 (length (pack os))) refl u
     go false e true f u = ninth (os ++ (o ∷ [])) (omega (arith, ltb-true 8 (length (pack os)) f, pack-grows [] os (o ∷ [])))
     go false e false f u = cc
 
-has-room : (os : List Object) → unpackable os ≡ false → anyOf isOverlong os ≡ false
+pub has-room : (os : List Object) → unpackable os ≡ false → anyOf isOverlong os ≡ false
 unfolding unpackable
 has-room os u = neither (anyOf isOverlong os) _ u .0
 

@@ -4,28 +4,32 @@ use Prim.Native.Nat.{ℕ, zero, suc, _+_, _/_, _%_, _≤_, _<_}
 use native.Mathlib.Omega.{arith}
 use mathlib.Core.Bool.{true, false}
 use mathlib.Core.List.{List, [], _∷_, _++_, append-nil}
-use mathlib.Core.Option.{some, none}
-use lib.ListN.{length}
+use mathlib.Core.Option.{some}
+use lib.ListN.{length, take}
 use borrow.Author.Tests.{lt-ltb, le-ltb}
 use Rattle.model.specs.declared.Own.{Own}
 use Rattle.model.specs.declared.Neighbour.{Neighbour}
 use Rattle.model.specs.Number.{first, firstOf}
 use Rattle.model.specs.Object.{Object, kindOf, roleOf, join, bytesOf}
-use Rattle.model.specs.Reading.{dataObjects}
-use Rattle.model.specs.Update.{nextBody, updateObject, update, objectLeaf}
+use Rattle.model.specs.Run.{runObjects}
+use Rattle.model.specs.Update.{nextBody, updateObject, update, objectLeaf, tooLong, leafAnswer}
 use Rattle.model.proofs.ObjectLaws.{join-append}
 use Rattle.model.proofs.FirstLaws.{first-snoc}
 use Rattle.model.proofs.ShapeLaws.{update-append}
 use Rattle.wire.specs.declared.objects.Header.{Header}
 use Rattle.wire.specs.declared.objects.Cursor.{Cursor}
 use Rattle.wire.specs.declared.objects.Step.the-variants.{Found, CutShort, End}
-use Rattle.wire.specs.Step.{firstCursor, stepAt, objectOf, objectIn}
-use Rattle.wire.proofs.WalkLaws.{Walked, walk-first, walk-found, walk-end, walk-short}
+use Rattle.wire.specs.declared.options.Entry.the-variants.{Into, Short, Nothing}
+use Rattle.wire.specs.declared.options.Start.{Start}
+use Rattle.wire.specs.Step.{stepAt, objectOf, objectIn}
+use Rattle.wire.specs.Entry.{entryAt}
+use Rattle.wire.specs.Start.{startOf}
+use Rattle.wire.proofs.RunWalkLaws.{RunWalked, run-first, run-found, run-enter, run-short, run-cut, run-end}
 use Rattle.hop.specs.declared.plan.Filled.{Filled}
 use Rattle.hop.specs.declared.plan.Planned.{Planned}
 use Rattle.hop.specs.declared.plan.Sent.{Sent}
 use Rattle.model.specs.Pack.{unpackable, packed}
-use Rattle.hop.specs.Sent.{tooLong, leafAnswer, sendsObjects, sentOf}
+use Rattle.hop.specs.Sent.{sendsObjects, sentOf}
 use Rattle.hop.specs.Planned.{Small, Fills, Plans}
 use Rattle.hop.proofs.PackingLaws.{fills-first, packs-size}
 
@@ -91,38 +95,45 @@ module _ (own : Own) (c : Neighbour) (os : List Object) (p : Planned) (q : Plans
       let over : unpackable (update own c os) ≡ false = sym (q .fills .over) ∙ le-ltb 255 (p .filled .fill) t in
       rw (none, over, packs-size (q .fills .packs t))
 
--- ---- the pass over a container's objects
+-- ---- the pass over a run's objects
 
 -- the objects before a cursor are planned
-pub record Planning (own : Own) (c : Neighbour) (bs : List ℕ) (k : Cursor) (p : Planned) : Type 0 where
+pub record Planning (own : Own) (c : Neighbour) (run : List ℕ) (end : ℕ) (k : Cursor) (p : Planned) : Type 0 where
   pub earlier : List Object
-  pub walked : Walked bs k earlier
+  pub walked : RunWalked run end k earlier
   pub plans : Plans own c p earlier
   pub small : Small (p .filled)
 
-module _ (own : Own) (c : Neighbour) (bs : List ℕ) where
-  pub planning-first : Planning own c bs firstCursor (record { leaf = 0; filled = record { closed = 0; frame = 0; fill = 0 } })
+module _ (own : Own) (c : Neighbour) (run : List ℕ) where
+  pub planning-first : (s : Start) → s ≡ startOf run → Planning own c run (s .end) (s .cursor) (record { leaf = 0; filled = record { closed = 0; frame = 0; fill = 0 } })
   unfolding firstOf
-  planning-first = record {
+  planning-first s e = record {
     earlier = [];
-    walked = walk-first bs;
+    walked = run-first run s e;
     plans = record { leaf = refl; fills = fills-first };
     small = record { few = omega arith; room = omega arith; short = omega arith };
   }
 
-  module _ (k : Cursor) (p : Planned) (q : Planning own c bs k p) where
-    pub planning-found : {h : Header} {start end : ℕ} {n : Cursor} {r : Planned} → stepAt bs k ≡ Found h start end n
-        → Small (r .filled) → ((es : List Object) → Plans own c p es → Plans own c r (es ++ (objectIn bs h start end ∷ []))) → Planning own c bs n r
-    planning-found {h} {start} {end} e s f = record {
-      earlier = q .earlier ++ (objectIn bs h start end ∷ []);
-      walked = walk-found bs k (q .earlier) (q .walked) e;
+  module _ (end : ℕ) (k : Cursor) (p : Planned) (q : Planning own c run end k p) where
+    pub planning-found : {h : Header} {start stop : ℕ} {n : Cursor} {r : Planned} → stepAt (take end run) k ≡ Found h start stop n
+        → Small (r .filled) → ((es : List Object) → Plans own c p es → Plans own c r (es ++ (objectIn (take end run) h start stop ∷ []))) → Planning own c run end n r
+    planning-found {h} {start} {stop} e s f = record {
+      earlier = q .earlier ++ (objectIn (take end run) h start stop ∷ []);
+      walked = run-found run end k (q .earlier) (q .walked) e;
       plans = f (q .earlier) (q .plans);
       small = s;
     }
 
-    pub planning-end : {r : Sent} → stepAt bs k ≡ End → ((own : Own) (c : Neighbour) (os : List Object) → Plans own c p os → r ≡ sentOf (sendsObjects own c (some os)))
-        → r ≡ sentOf (sendsObjects own c (dataObjects bs))
-    planning-end e f = f own c (q .earlier) (q .plans) ∙ rw (walk-end bs k (q .earlier) (q .walked) e)
+    pub planning-enter : {n : Cursor} {stop : ℕ} → stepAt (take end run) k ≡ End → entryAt run end ≡ Into n stop → Planning own c run stop n p
+    planning-enter d e = record { earlier = q .earlier; walked = run-enter run end k (q .earlier) (q .walked) d e; plans = q .plans; small = q .small }
 
-    pub planning-cut : stepAt bs k ≡ CutShort → record { leaf = 0; size = 0 } ≡ sentOf (sendsObjects own c (dataObjects bs))
-    planning-cut e = rw (walk-short bs k (q .earlier) (q .walked) e)
+    pub planning-end : {r : Sent} → stepAt (take end run) k ≡ End → entryAt run end ≡ Nothing
+        → ((own : Own) (c : Neighbour) (os : List Object) → Plans own c p os → r ≡ sentOf (sendsObjects own c (some os))) → r ≡ sentOf (sendsObjects own c (runObjects run))
+    planning-end d e f = f own c (q .earlier) (q .plans) ∙ rw (run-end run end k (q .earlier) (q .walked) d e)
+
+    -- an object or an option that is cut short
+    pub planning-short : stepAt (take end run) k ≡ CutShort → record { leaf = 0; size = 0 } ≡ sentOf (sendsObjects own c (runObjects run))
+    planning-short e = rw (run-short run end k (q .earlier) (q .walked) e)
+
+    pub planning-cut : stepAt (take end run) k ≡ End → entryAt run end ≡ Short → record { leaf = 0; size = 0 } ≡ sentOf (sendsObjects own c (runObjects run))
+    planning-cut d e = rw (run-cut run end k (q .earlier) (q .walked) d e)

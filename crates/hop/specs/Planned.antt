@@ -10,8 +10,7 @@ use Rattle.model.specs.declared.Own.{Own}
 use Rattle.model.specs.declared.Neighbour.{Neighbour}
 use Rattle.model.specs.Number.{firstOf}
 use Rattle.model.specs.Object.{Object, join}
-use Rattle.model.specs.Reading.{dataObjects}
-use Rattle.model.specs.Run.{joinOptions}
+use Rattle.model.specs.Run.{joinOptions, runObjects}
 use Rattle.model.specs.Pack.{packFrom, pack, containerOption, unpackable}
 use Rattle.model.specs.Update.{update, objectLeaf}
 use Rattle.wire.specs.Put.{Put}
@@ -48,10 +47,10 @@ pub record Plans (own : Own) (c : Neighbour) (p : Planned) (es : List Object) : 
   pub leaf : p .leaf ≡ firstOf (objectLeaf own c) es
   pub fills : Fills (p .filled) (update own c es)
 
--- the objects of a container are whole, and there is room for them for the next hop
-pub record Fits (own : Own) (c : Neighbour) (bs : List ℕ) : Type 0 where
+-- the joined objects of a run are whole, and there is room for them for the next hop
+pub record Fits (own : Own) (c : Neighbour) (run : List ℕ) : Type 0 where
   pub objects : List Object
-  pub whole : dataObjects bs ≡ some objects
+  pub whole : runObjects run ≡ some objects
   pub packs : unpackable (update own c objects) ≡ false
 
 -- containers being put: bytes of the closed ones are in the output, the objects that the open one holds are in the array behind its

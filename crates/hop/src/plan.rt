@@ -7,13 +7,16 @@ ghost use lib.ListN.{length};
 ghost use Rattle.model.specs.declared.Own.{Own};
 ghost use Rattle.model.specs.declared.Neighbour.{Neighbour};
 ghost use Rattle.model.specs.Object.{Object, bytesOf};
-ghost use Rattle.model.specs.Reading.{dataObjects};
+ghost use Rattle.model.specs.Run.{runObjects};
+ghost use Rattle.wire.specs.Start.{startOf};
 ghost use Rattle.wire.specs.Step.{objectOf};
 ghost use Rattle.hop.specs.Sent.{sendsObjects, sentOf};
 ghost use Rattle.hop.specs.Planned.{Small, Fills, Plans};
 use model::Neighbour;
 use model::Own;
+use wire::Entry;
 use wire::Header;
+use wire::Start;
 use wire::Step;
 
 // What is sent on: a leaf number, 0 for none; and document 01's length of the containers in the output, 0 for none.
@@ -94,7 +97,7 @@ fn plan_object(p: Planned, own: Own, neighbour: Neighbour, header: Header, body:
     }
 }
 
-// The answer for all objects of a container.
+// The answer for all objects of a run.
 fn conclude(p: Planned) -> Sent
     requires { ⌜ Small (p .filled) ⌝ }
     ensures { λ r. ⌜ ((own : Own) (c : Neighbour) (os : List Object) → Plans own c p os → r ≡ sentOf (sendsObjects own c (some os))) ⌝ }
@@ -114,11 +117,13 @@ fn conclude(p: Planned) -> Sent
     }
 }
 
-// The answer for a container, in one pass over its objects.
-pub(crate) fn plan(own: Own, neighbour: Neighbour, container: &[u8]) -> Sent
-    ensures { λ r. ⌜ r ≡ sentOf (sendsObjects own neighbour (dataObjects (now (container .entry)))) ⌝ }
+// The answer for a run, in one pass over its objects from its start on.
+pub(crate) fn plan(own: Own, neighbour: Neighbour, run: &[u8], start: Start) -> Sent
+    requires { ⌜ start ≡ startOf (now run) ⌝ }
+    ensures { λ r. ⌜ r ≡ sentOf (sendsObjects own neighbour (runObjects (now (run .entry)))) ⌝ }
 {
-    let mut cursor = wire::first();
+    let mut cursor = start.cursor;
+    let mut end = start.end;
     let mut p = Planned {
         leaf: 0,
         filled: Filled {
@@ -128,22 +133,32 @@ pub(crate) fn plan(own: Own, neighbour: Neighbour, container: &[u8]) -> Sent
         },
     };
     loop {
+        let container = &run[..end];
         match wire::next(container, cursor) {
             Step::Found {
                 header,
                 start,
-                end,
+                end: stop,
                 next,
             } => {
-                p = plan_object(p, own, neighbour, header, &container[start..end]);
+                p = plan_object(p, own, neighbour, header, &container[start..stop]);
                 cursor = next;
             }
             Step::CutShort => {
                 return Sent { leaf: 0, size: 0 };
             }
-            Step::End => {
-                return conclude(p);
-            }
+            Step::End => match wire::enter(run, end) {
+                Entry::Into { first, end: behind } => {
+                    cursor = first;
+                    end = behind;
+                }
+                Entry::Short => {
+                    return Sent { leaf: 0, size: 0 };
+                }
+                Entry::Nothing => {
+                    return conclude(p);
+                }
+            },
         }
     }
 }

@@ -8,10 +8,11 @@ ghost use lib.ListN.{length, set, take};
 ghost use lib.Seq.{sets};
 ghost use Rattle.model.specs.declared.Own.{Own};
 ghost use Rattle.model.specs.Object.{Object, bytesOf};
-ghost use Rattle.model.specs.Reading.{dataObjects};
+ghost use Rattle.model.specs.Run.{runObjects};
 ghost use Rattle.model.specs.Update.{update, updateObject};
 ghost use Rattle.model.specs.Pack.{packed};
 ghost use Rattle.model.specs.Choice.{outputOf};
+ghost use Rattle.wire.specs.Start.{startOf};
 ghost use Rattle.wire.specs.Step.{objectOf};
 ghost use Rattle.wire.specs.Put.{Put};
 ghost use Rattle.hop.specs.Sent.{unfit, sends, sentOf};
@@ -22,7 +23,9 @@ use crate::plan;
 use crate::plan::Sent;
 use model::Neighbour;
 use model::Own;
+use wire::Entry;
 use wire::Header;
+use wire::Start;
 use wire::Step;
 
 // Where the next container goes in the output, and the next object in the array.
@@ -122,47 +125,53 @@ fn put_packed(
     }
 }
 
-// Puts the containers of a container's objects for the next hop.
+// Puts the containers of a run's objects for the next hop, from its start on.
 fn put_objects(
     out: &mut [u8],
     array: &mut [u8],
     own: Own,
     neighbour: Neighbour,
-    container: &[u8],
+    run: &[u8],
+    start: Start,
 )
     requires { ⌜ (own .nodetype ≤ 3) × (neighbour .lql ≤ 7) × (neighbour .colour ≤ 1023) ⌝ }
     requires { ⌜ (length (now array) ≡ 257) × (2056 ≤ length (now out)) ⌝ }
-    requires { ⌜ Fits own neighbour (now container) ⌝ }
-    ensures { λ r. ⌜ ((os : List Object) → dataObjects (now (container .entry)) ≡ some os → now (out .exit) ≡ sets (now (out .entry)) 0 (packed (update own neighbour os))) ⌝ }
+    requires { ⌜ Fits own neighbour (now run) ⌝ }
+    requires { ⌜ start ≡ startOf (now run) ⌝ }
+    ensures { λ r. ⌜ ((os : List Object) → runObjects (now (run .entry)) ≡ some os → now (out .exit) ≡ sets (now (out .entry)) 0 (packed (update own neighbour os))) ⌝ }
 {
-    let mut cursor = wire::first();
+    let mut cursor = start.cursor;
+    let mut end = start.end;
     let mut place = Place { done: 0, at: 2 };
     loop {
+        let container = &run[..end];
         match wire::next(container, cursor) {
             Step::Found {
                 header,
                 start,
-                end,
+                end: stop,
                 next,
             } => {
-                place = put_packed(
-                    out,
-                    array,
-                    place,
-                    own,
-                    neighbour,
-                    header,
-                    &container[start..end],
-                );
+                let body = &container[start..stop];
+                place = put_packed(out, array, place, own, neighbour, header, body);
                 cursor = next;
             }
             Step::CutShort => {
                 return;
             }
-            Step::End => {
-                flush(out, place.done, array, place.at);
-                return;
-            }
+            Step::End => match wire::enter(run, end) {
+                Entry::Into { first, end: behind } => {
+                    cursor = first;
+                    end = behind;
+                }
+                Entry::Short => {
+                    return;
+                }
+                Entry::Nothing => {
+                    flush(out, place.done, array, place.at);
+                    return;
+                }
+            },
         }
     }
 }
@@ -176,18 +185,19 @@ fn is_unfit(own: Own, neighbour: Neighbour, room: usize) -> bool
 
 // Writes the containers for the next hop, or answers why there are none. The plan has ruled out every leaf answer before a byte is
 // written.
-pub fn send(own: Own, neighbour: Neighbour, container: &[u8], out: &mut [u8]) -> Sent
-    ensures { λ r. ⌜ r ≡ sentOf (sends own neighbour (now (container .entry)) (length (now (out .entry)))) ⌝ }
-    ensures written { λ r. ⌜ now (out .exit) ≡ outputOf (sends own neighbour (now (container .entry)) (length (now (out .entry)))) (now (out .entry)) ⌝ }
+pub fn send(own: Own, neighbour: Neighbour, run: &[u8], out: &mut [u8]) -> Sent
+    ensures { λ r. ⌜ r ≡ sentOf (sends own neighbour (now (run .entry)) (length (now (out .entry)))) ⌝ }
+    ensures written { λ r. ⌜ now (out .exit) ≡ outputOf (sends own neighbour (now (run .entry)) (length (now (out .entry)))) (now (out .entry)) ⌝ }
 {
     if is_unfit(own, neighbour, out.len()) {
         return Sent { leaf: 0, size: 0 };
     }
-    let sent = plan::plan(own, neighbour, container);
+    let start = wire::start_of(run);
+    let sent = plan::plan(own, neighbour, run, start);
     if sent.size == 0 {
         return sent;
     }
     let mut built = [0u8; 257];
-    put_objects(out, &mut built, own, neighbour, container);
+    put_objects(out, &mut built, own, neighbour, run, start);
     sent
 }

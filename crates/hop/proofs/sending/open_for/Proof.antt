@@ -42,7 +42,7 @@ same-length-2 c = search needs
 
 -- src/sending.rt:80:1
 returns-2 : tie.Need-returns-2
-returns-2 c = 
+returns-2 c =
     let s = c .before .before .before .before .before .before .before .before .before .before .before .before in
     let flush = c .before .before .before .before .flush in
     (λ own l whole rest n p. builds-next (updateObject own (s .args .neighbour) (objectOf (s .args .header) (s .args .body .now))) p n (leb-false _ _ (sym (c .before .before .before .before .before .before .before .before .has-room .ensures own) ∙ c .before .before .before .before .before .before .before .if1 .left)) (flush .ensures .0) (flush .ensures .1), λ own n. omega arith)

@@ -1,53 +1,39 @@
-use Prim.Native.Nat.{ℕ, zero, suc, _+_, _-_, _*_, _^_, _≤_, _<_}
-use mathlib.Core.Path.{_≡_, refl, sym, ap, _∙_}
-use mathlib.Core.List.{List, [], _∷_, _++_, map}
-use mathlib.Core.Logic.{⊎-elim}
-use mathlib.Core.Bool.{Bool, true, false}
-use native.Mathlib.Omega.{arith}
-use native.Mathlib.Numerals.{add-one}
+use mathlib.Core.Path.{refl}
 use borrow.Author.Needs.{needs}
-use borrow.Author.Tests.{lt-ltb, le-ltb, le-leb, lt-leb, eq-eqb, ne-eqb, not-true, not-false}
-use lib.ListN.{length, getD, set, take, drop, length-set, length-take, length-drop, replicate, length-append}
-use lib.Seq.{drop-cons, take-suc, take-suc-set, set-split, getD-set-same}
+use Rattle.hop.proofs.SendLaws.{send-unfit, fit-bounds, send-nothing, sends-fits, send-put}
 use Rattle.hop.proofs.sending.send.Statement.{statement}
 use Rattle.hop.proofs.sending.send.Tie as tie
-use Rattle.hop.proofs.sending.send.Reads as reads
-use Rattle.hop.proofs.sending.send.Lts as lts
-use Rattle.hop.proofs.plan.plan.Reads as plan-reads
-use Rattle.hop.proofs.sending.is_unfit.Reads as is-unfit-reads
-use Rattle.hop.proofs.sending.put_objects.Reads as put-objects-reads
 
--- src/sending.rt:183:8
 is-unfit-requires : tie.Need-is-unfit-requires
-is-unfit-requires c κs = ?
+is-unfit-requires c κs = search needs
 
--- src/sending.rt:184:9
 returns : tie.Need-returns
-returns c = ?
+returns c = send-unfit _ _ _ _ (c .before .is-unfit .ensures) (c .if1 .taken)
 
--- src/sending.rt:186:9
+start-of-requires : tie.Need-start-of-requires
+start-of-requires c κs = search needs
+
 plan-requires : tie.Need-plan-requires
-plan-requires c κs = ?
+plan-requires c κs = search needs
 
--- src/sending.rt:188:9
 returns-2 : tie.Need-returns-2
-returns-2 c = ?
+returns-2 c = send-nothing _ _ _ _ (c .before .before .before .before .before .is-unfit .ensures) (c .before .before .before .before .if1 .left) (c .before .before .plan .ensures) (c .if2 .taken)
 
--- src/sending.rt:191:22
 slice-aggregate-put-objects : tie.Need-slice-aggregate-put-objects
-slice-aggregate-put-objects c = ?
+slice-aggregate-put-objects c = search needs
 
--- src/sending.rt:191:5
 put-objects-requires : tie.Need-put-objects-requires
-put-objects-requires c κs = ?
+put-objects-requires c κs =
+    let a = c .before .before .before .before .before .before .before .before .before .before .args in
+    let bounds = fit-bounds (a .own) (a .neighbour) (a .run .now) (a .out .now) (c .before .before .before .before .before .before .before .is-unfit .ensures) (c .before .before .before .before .before .before .if1 .left) in
+    let fits = sends-fits (a .own) (a .neighbour) (a .run .now) (a .out .now) (c .before .before .before .before .plan .ensures) (c .before .before .if2 .left) in
+    (bounds .0, ((refl, bounds .1), (fits, c .before .before .before .before .before .start-of .ensures)))
 
--- src/sending.rt:179:1
 same-length : tie.Need-same-length
-same-length c = ?
+same-length c = search needs
 
--- src/sending.rt:179:1
 returns-3 : tie.Need-returns-3
-returns-3 c = ?
+returns-3 c = send-put _ _ _ _ (c .before .before .before .before .before .before .before .before .before .before .before .is-unfit .ensures) (c .before .before .before .before .before .before .before .before .before .before .if1 .left) (c .before .before .before .before .before .before .before .before .plan .ensures) (c .before .before .before .before .before .before .if2 .left) (c .before .before .before .put-objects .ensures)
 
 pub send-spec : {M : Type 1} → statement M
 send-spec =
@@ -55,6 +41,7 @@ send-spec =
     (tie.spec
     is-unfit-requires
     returns
+    start-of-requires
     plan-requires
     returns-2
     slice-aggregate-put-objects
