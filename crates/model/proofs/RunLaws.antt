@@ -1,20 +1,22 @@
 -- Options and their bytes; the cut of a run.
 use mathlib.Core.Path.{_≡_, refl, sym, ap, _∙_}
-use Prim.Native.Nat.{ℕ, zero, suc, _≤_}
+use Prim.Native.Nat.{ℕ, zero, suc, _+_, _*_, _≤_}
 use native.Mathlib.Nat.{not-suc-le-zero}
 use mathlib.Core.Bool.{Bool, true, false, cond}
 use mathlib.Core.List.{List, [], _∷_, _++_, map, append-assoc, append-nil}
 use mathlib.Core.Option.{Option, none, some, Option·none-ne-some}
 use native.Mathlib.Omega.{arith}
-use lib.ListN.{length, take, drop, length-append, take-append-drop, length-drop}
-use lib.Seq.{length-take-le, take-append-seam, drop-append-seam}
+use lib.ListN.{length, take, drop, getD, length-append, take-append-drop, length-drop}
+use lib.Seq.{length-take-le, take-length, drop-length, take-append-seam, drop-append-seam, getD-drop}
 use lib.Dec.{leb, ltb}
-use borrow.Author.Tests.{le-leb, leb-true}
+use borrow.Author.Tests.{le-leb, leb-true, ltb-false}
 use Rattle.model.specs.Number.{firstOf}
 use Rattle.model.specs.Object.{Object, split, join, standings, known, kind}
-use Rattle.model.specs.Reading.{noPlace, Reading, refused, wellFormed, readAs, readObjects, objectBar, isNone}
+use Rattle.model.specs.Reading.{noPlace, misframed, dataObjects, reading, Reading, refused, wellFormed, readAs, readObjects, objectBar, isNone}
 use Rattle.model.specs.Cut.{keepIf, cut, cutData, cutObject}
-use Rattle.model.proofs.ObjectLaws.{split-join, join-split, join-append}
+use Rattle.model.specs.Runs.{OneContainer}
+use Rattle.model.proofs.ObjectLaws.{split-join, join-split, join-append, join-four}
+use Rattle.model.proofs.ReadingLaws.{framed}
 use Rattle.model.proofs.CutLaws.{objectBars-cut, cut-append}
 use Rattle.model.specs.Run.{RplOption, pad1, option, optionBytes, joinOptions, leading, optionsUpTo, options, isContainer, containers, joined, objectsOf, optionsIn, joinedObjects, runObjects, optionCut, ninthContainer, readRun, cutOption, cutRun, concat, joinedData}
 
@@ -192,3 +194,55 @@ run-cut bs os e =
         let f : ltb 8 (length (containers run)) ≡ false = rw q at few in
         let o : objectsOf (containers run) ≡ some os = rw q at objects in
         rw q (reading-options (map cutOption run) (cut os) (rw (containers-cut run, length-map-cut (containers run)) f) (rw (containers-cut run) (objectsOf-cut (containers run) os o)) (objectBars-cut [] os z))
+
+-- ---- a run that is one container
+
+pub joined-nil : (r : Option (List Object)) → joined r (some []) ≡ r
+joined-nil none = refl
+joined-nil (some os) = ap some (append-nil os)
+
+framed-options : (bs : List ℕ) → misframed bs ≡ false → options bs ≡ some (option 1 (drop 2 bs) ∷ [])
+unfolding options optionsUpTo
+framed-options bs e = ap options (framed bs e) ∙ go (drop 2 bs)
+  where
+    go : (ds : List ℕ) → options (2 ∷ length ds ∷ ds) ≡ some (option 1 ds ∷ [])
+    go ds = options-step 1 (length ds) ds ∙ rw (le-leb (length ds) (length ds) (omega arith), take-length ds, drop-length ds)
+
+-- its objects are those of its data
+pub framed-run : (bs : List ℕ) → misframed bs ≡ false → runObjects bs ≡ dataObjects bs
+unfolding containers objectsOf
+framed-run bs e = rw (framed-options bs e) (joined-nil (dataObjects bs))
+
+-- it has neither bar 22 nor 23
+pub framed-clear : (bs : List ℕ) → misframed bs ≡ false → (optionCut bs ≡ false) × (ninthContainer bs ≡ false)
+unfolding containers
+framed-clear bs e = rw (framed-options bs e) (refl, refl)
+
+pub one-container : OneContainer
+unfolding readRun reading
+one-container bs e = let (a, b) = framed-clear bs e in rw (a, b, e, framed-run bs e)
+
+-- ---- how many objects a run has
+
+-- a container's length is a byte
+short-data : (os : List RplOption) → ((i : ℕ) → getD (joinOptions os) i 0 ≤ 255) → length (concat (containers os)) ≤ 255 * length (containers os)
+unfolding joinOptions containers concat
+short-data [] h = omega arith
+short-data (pad1 ∷ os) h = short-data os (λ i. h (suc i))
+short-data (option t d ∷ os) h = go (isContainer t) (h 1) (short-data os (λ i. rw behind (h (suc (suc (length d + i))))))
+  where
+    behind : (i : ℕ) → getD (joinOptions os) i 0 ≡ getD (d ++ joinOptions os) (length d + i) 0
+    behind i = rw (← getD-drop (length d) (d ++ joinOptions os) i 0, drop-append-seam d (joinOptions os))
+
+    go : (b : Bool) → length d ≤ 255 → length (concat (containers os)) ≤ 255 * length (containers os)
+        → length (concat (keepIf b d (containers os))) ≤ 255 * length (keepIf b d (containers os))
+    go true l ih = rw length-append (omega arith)
+    go false l ih = ih
+
+-- eight containers of 255 bytes have few objects
+pub few-objects : (bs : List ℕ) (os : List Object) → ((i : ℕ) → getD bs i 0 ≤ 255) → ninthContainer bs ≡ false → runObjects bs ≡ some os → length os ≤ 510
+few-objects bs os h f e =
+    let (run, q, o) = run-options bs os e in
+    let few : length (containers run) ≤ 8 = ltb-false 8 (length (containers run)) (rw q at f) in
+    let bytes : (i : ℕ) → getD (joinOptions run) i 0 ≤ 255 = rw (join-options bs run q) h in
+    omega (arith, join-four os, ap length (concat-join (containers run) os o), short-data run bytes)

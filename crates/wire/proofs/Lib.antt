@@ -3,6 +3,9 @@ pub mod RowLaws
 pub mod NumberLaws
 pub mod StepLaws
 pub mod WalkLaws
+pub mod EntryLaws
+pub mod StartLaws
+pub mod RunWalkLaws
 pub mod TlvLaws
 pub mod BodyLaws
 pub mod BarLaws

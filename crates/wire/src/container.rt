@@ -4,7 +4,7 @@ ghost use Prim.Native.Nat.{_≤_};
 ghost use mathlib.Core.List.{List};
 ghost use lib.ListN.{length};
 ghost use Rattle.model.specs.Object.{Object};
-ghost use Rattle.model.specs.Reading.{misframed, dataObjects, readObjects, reading};
+ghost use Rattle.model.specs.Reading.{dataObjects, readObjects, reading};
 ghost use Rattle.wire.specs.Gathered.{Gathers, wholeReading, wholeFrom, barredBy};
 ghost use Rattle.wire.specs.Reading.{readingOf};
 use crate::gathered;
@@ -13,6 +13,7 @@ use crate::mandatory;
 use crate::objects;
 use crate::objects::Cursor;
 use crate::objects::Step;
+use crate::options;
 
 // What a container tells the tests of its constraints: one more than the count of its HP metric, 0 for none; the latency and the ETX
 // that it received, where a metric adds them up along the path, else 0.
@@ -34,18 +35,6 @@ pub enum Reading {
         mandatory: bool,
         told: Told,
     },
-}
-
-// Bar 13.
-fn is_misframed(container: &[u8]) -> bool
-    ensures { λ r. ⌜ r ≡ misframed (now (container .entry)) ⌝ }
-{
-    let n = container.len();
-    if n < 2 {
-        return true;
-    }
-    let size = container[1] as usize;
-    (container[0] != 2) | (size != n - 2)
 }
 
 // What is gathered of all objects of a container, where none has a bar.
@@ -146,7 +135,7 @@ fn read_objects(container: &[u8]) -> Reading
 pub fn read(container: &[u8]) -> Reading
     ensures { λ r. ⌜ r ≡ readingOf (reading (now (container .entry))) ⌝ }
 {
-    if is_misframed(container) {
+    if options::is_misframed(container) {
         return Reading::Refused {
             number: 13,
             place: 65535,

@@ -6,6 +6,7 @@ mod gathered;
 mod mandatory;
 mod numbers;
 mod objects;
+mod options;
 mod seen;
 mod table;
 
@@ -21,6 +22,10 @@ pub use objects::first;
 pub use objects::is_constraint;
 pub use objects::is_recorded;
 pub use objects::next;
+pub use options::Entry;
+pub use options::Start;
+pub use options::enter;
+pub use options::start_of;
 pub use table::Row;
 pub use table::is_known;
 pub use table::row_of;

@@ -35,6 +35,13 @@ pub fn first() -> Cursor
     Cursor { at: 2 }
 }
 
+// The cursor at an index.
+pub(crate) fn cursor_at(at: usize) -> Cursor
+    ensures { λ r. ⌜ r ≡ record { at = at } ⌝ }
+{
+    Cursor { at }
+}
+
 // What stands at a cursor of a container.
 pub fn next(container: &[u8], cursor: Cursor) -> Step
     ensures { λ r. ⌜ r ≡ stepAt (now (container .entry)) cursor ⌝ }

@@ -1,23 +1,24 @@
 use mathlib.Core.Path.{sym, _∙_}
 use native.Mathlib.Omega.{arith}
 use borrow.Author.Needs.{needs}
-use lib.ListN.{length-take, length-drop}
-use Rattle.wire.proofs.StepLaws.{left, step-inside}
-use Rattle.hop.proofs.PlanLaws.{Planning, planning-first, planning-found, planning-room, planning-short, planning-end, planning-cut}
+use lib.Seq.{length-take-le}
+use Rattle.wire.proofs.StepLaws.{left}
+use Rattle.wire.proofs.RunWalkLaws.{step-on, enter-on}
+use Rattle.hop.proofs.PlanLaws.{Planning, planning-first, planning-found, planning-enter, planning-short, planning-cut, planning-end}
 use Rattle.hop.proofs.plan.plan.Statement.{statement}
 use Rattle.hop.proofs.plan.plan.Tie as tie
 
 abbrev Inv-loop : tie.InvT-loop
-Inv-loop own neighbour container cursor₀ p₀ cursor p = Planning own neighbour container cursor p
+Inv-loop own neighbour run cursor₀ end₀ p₀ cursor end p = Planning own neighbour run end cursor p
 
 abbrev μ-loop : tie.MeasureT-loop
-μ-loop own neighbour container cursor₀ p₀ cursor p = left container cursor
-
-first-requires : tie.Need-first-requires Inv-loop μ-loop
-first-requires c κs = search needs
+μ-loop own neighbour run cursor₀ end₀ p₀ cursor end p = left run cursor
 
 loop-holds : tie.Need-loop-holds Inv-loop μ-loop
-loop-holds c = rw (c .first .ensures) (planning-first _ _ _)
+loop-holds c = planning-first _ _ _ (c .before .before .args .start) (c .before .before .pre)
+
+slice-aggregate-container : tie.Need-slice-aggregate-container Inv-loop μ-loop
+slice-aggregate-container c = sym (length-take-le _ _ (c .before .loop .inv .walked .inside .1))
 
 next-requires : tie.Need-next-requires Inv-loop μ-loop
 next-requires c κs = search needs
@@ -28,58 +29,71 @@ enum-known-header c = search needs
 sub-plan-object : tie.Need-sub-plan-object Inv-loop μ-loop
 sub-plan-object c =
     let at-step = c .before .before .before in
-    step-inside _ _ (sym (at-step .next .ensures) ∙ c .before .header .given .1) .0
+    let on = step-on _ _ _ (sym (at-step .next .ensures) ∙ c .before .header .given .1) (at-step .before .before .loop .inv .walked .inside) in
+    on .0
 
 part-plan-object-start : tie.Need-part-plan-object-start Inv-loop μ-loop
 part-plan-object-start c =
     let at-step = c .before .before .before in
-    let f = step-inside _ _ (sym (at-step .next .ensures) ∙ c .before .header .given .1) in
+    let on = step-on _ _ _ (sym (at-step .next .ensures) ∙ c .before .header .given .1) (at-step .before .before .loop .inv .walked .inside) in
     omega arith
 
 part-plan-object-end : tie.Need-part-plan-object-end Inv-loop μ-loop
 part-plan-object-end c =
     let at-step = c .before .before .before in
-    step-inside _ _ (sym (at-step .next .ensures) ∙ c .before .header .given .1) .1 .0
+    let on = step-on _ _ _ (sym (at-step .next .ensures) ∙ c .before .header .given .1) (at-step .before .before .loop .inv .walked .inside) in
+    on .1
 
 plan-object-requires : tie.Need-plan-object-requires Inv-loop μ-loop
-plan-object-requires c κs =
-    let at-step = c .before .before .before .before in
-    let found = sym (at-step .next .ensures) ∙ c .before .before .header .given .1 in
-    let inside = step-inside _ _ found in
-    let room = planning-room _ _ _ _ _ (at-step .before .loop .inv) found (at-step .before .before .before .before .pre) in
-    (rw (length-take, length-drop) (omega arith), room .1)
+plan-object-requires c κs = c .before .before .before .before .before .before .loop .inv .small
 
 loop-less : tie.Need-loop-less Inv-loop μ-loop
 loop-less c =
-    let match = c .before .before .before in
-    step-inside _ _ (sym (match .before .before .next .ensures) ∙ match .header .given .1) .1 .1
+    let at-step = c .before .before .before .before .before in
+    let on = step-on _ _ _ (sym (at-step .next .ensures) ∙ c .before .before .before .header .given .1) (at-step .before .before .loop .inv .walked .inside) in
+    on .2
 
 loop-again : tie.Need-loop-again Inv-loop μ-loop
 loop-again c =
-    let match = c .before .before .before in
-    let at-step = match .before .before in
-    planning-found _ _ _ _ _ (at-step .before .loop .inv) (sym (at-step .next .ensures) ∙ match .header .given .1) (c .plan-object .ensures)
+    let at-step = c .before .before .before .before .before in
+    let more = c .plan-object .ensures in
+    planning-found _ _ _ _ _ _ (at-step .before .before .loop .inv) (sym (at-step .next .ensures) ∙ c .before .before .before .header .given .1) (more .0) (more .1)
 
 enum-told : tie.Need-enum-told Inv-loop μ-loop
 enum-told c = search needs
 
 returns : tie.Need-returns Inv-loop μ-loop
-returns c =
-    let at-step = c .before .before in
-    planning-cut _ _ _ _ _ (at-step .before .loop .inv) (sym (at-step .next .ensures) ∙ c .enum-told .given .1)
+returns c = planning-short _ _ _ _ _ _ (c .before .before .before .before .loop .inv) (sym (c .before .before .next .ensures) ∙ c .enum-told .given .1)
 
 enum-told-2 : tie.Need-enum-told-2 Inv-loop μ-loop
 enum-told-2 c = search needs
 
-conclude-requires : tie.Need-conclude-requires Inv-loop μ-loop
-conclude-requires c κs =
-    let at-step = c .before .before in
-    planning-short _ _ _ _ _ (at-step .before .loop .inv) (at-step .before .before .before .before .pre)
+enter-requires : tie.Need-enter-requires Inv-loop μ-loop
+enter-requires c κs = search needs
+
+enum-known-first : tie.Need-enum-known-first Inv-loop μ-loop
+enum-known-first c = search needs
+
+loop-less-2 : tie.Need-loop-less-2 Inv-loop μ-loop
+loop-less-2 c = enter-on _ _ _ (sym (c .before .before .before .enter .ensures) ∙ c .before .first .given .1) (c .before .before .before .before .before .before .before .before .loop .inv .walked .inside) .0
+
+loop-again-2 : tie.Need-loop-again-2 Inv-loop μ-loop
+loop-again-2 c = planning-enter _ _ _ _ _ _ (c .before .before .before .before .before .before .before .before .loop .inv) (sym (c .before .before .before .before .before .before .next .ensures) ∙ c .before .before .before .before .enum-told2 .given .1) (sym (c .before .before .before .enter .ensures) ∙ c .before .first .given .1)
+
+enum-told-3 : tie.Need-enum-told-3 Inv-loop μ-loop
+enum-told-3 c = search needs
 
 returns-2 : tie.Need-returns-2 Inv-loop μ-loop
-returns-2 c =
-    let at-step = c .before .before .before in
-    planning-end _ _ _ _ _ (at-step .before .loop .inv) (sym (at-step .next .ensures) ∙ c .before .enum-told2 .given .1) (c .conclude .ensures)
+returns-2 c = planning-cut _ _ _ _ _ _ (c .before .before .before .before .before .before .before .loop .inv) (sym (c .before .before .before .before .before .next .ensures) ∙ c .before .before .before .enum-told2 .given .1) (sym (c .before .before .enter .ensures) ∙ c .enum-told3 .given .1)
+
+enum-told-4 : tie.Need-enum-told-4 Inv-loop μ-loop
+enum-told-4 c = search needs
+
+conclude-requires : tie.Need-conclude-requires Inv-loop μ-loop
+conclude-requires c κs = c .before .before .before .before .before .before .before .loop .inv .small
+
+returns-3 : tie.Need-returns-3 Inv-loop μ-loop
+returns-3 c = planning-end _ _ _ _ _ _ (c .before .before .before .before .before .before .before .before .loop .inv) (sym (c .before .before .before .before .before .before .next .ensures) ∙ c .before .before .before .before .enum-told2 .given .1) (sym (c .before .before .before .enter .ensures) ∙ c .before .enum-told4 .given .1) (c .conclude .ensures)
 
 pub plan-spec : {M : Type 1} → statement M
 plan-spec =
@@ -87,8 +101,8 @@ plan-spec =
     (tie.spec
     Inv-loop
     μ-loop
-    first-requires
     loop-holds
+    slice-aggregate-container
     next-requires
     enum-known-header
     sub-plan-object
@@ -100,5 +114,12 @@ plan-spec =
     enum-told
     returns
     enum-told-2
+    enter-requires
+    enum-known-first
+    loop-less-2
+    loop-again-2
+    enum-told-3
+    returns-2
+    enum-told-4
     conclude-requires
-    returns-2)
+    returns-3)

@@ -2,8 +2,8 @@ use Rattle.model.specs.Reading.{misframed}
 use native.Mathlib.Omega.{arith}
 use borrow.Author.Tests.{lt-ltb, le-ltb}
 use borrow.Author.Needs.{needs}
-use Rattle.wire.proofs.container.is_misframed.Statement.{statement}
-use Rattle.wire.proofs.container.is_misframed.Tie as tie
+use Rattle.wire.proofs.options.is_misframed.Statement.{statement}
+use Rattle.wire.proofs.options.is_misframed.Tie as tie
 
 returns : tie.Need-returns
 unfolding misframed
