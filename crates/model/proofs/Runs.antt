@@ -1,4 +1,4 @@
--- Runs of options beside one container, with options that are stepped over, and packed by next-fit.
+-- Objects that fit one container; options that are stepped over; next-fit of what is passed on.
 use mathlib.Core.Path.{_≡_, refl, sym, ap, _∙_}
 use Prim.Native.Nat.{ℕ, zero, suc, _+_, _≤_, _<_}
 use native.Mathlib.Omega.{arith}
@@ -15,35 +15,16 @@ use Rattle.model.specs.Cut.{keepIf}
 use Rattle.model.specs.Run.{RplOption, pad1, option, optionBytes, joinOptions, optionsUpTo, options, isContainer, containers, joined, objectsOf, optionsIn, joinedObjects, runObjects, readRun}
 use Rattle.model.specs.Update.{update}
 use Rattle.model.specs.Pack.{packFrom, pack, containerOption, packed}
-use Rattle.model.specs.Runs.{OneContainer, OnePacked, isContainerOption, NoContainer, Skips, OpensLate, NextFit}
+use Rattle.model.specs.Runs.{OnePacked, isContainerOption, NoContainer, Skips, OpensLate, NextFit}
 use Rattle.model.proofs.BoolLaws.{neither}
 use Rattle.model.proofs.ObjectLaws.{split-join, join-append}
-use Rattle.model.proofs.ReadingLaws.{framed}
 use Rattle.model.proofs.RunLaws.{following, options-append, options-join}
 use Rattle.model.proofs.PackLaws.{join-one, data-options}
 use Rattle.model.proofs.Selection.{selection}
 use Rattle.model.proofs.ByteLaws.{containers-are}
 use Rattle.model.proofs.OutgoingLaws.{passed-is}
 
--- ---- one container
-
-joined-nothing : (r : Option (List Object)) → joined r (some []) ≡ r
-joined-nothing none = refl
-joined-nothing (some os) = ap some (append-nil os)
-
--- a container's options are itself
-pub framed-options : (bs : List ℕ) → misframed bs ≡ false → options bs ≡ some (option 1 (drop 2 bs) ∷ [])
-unfolding joinOptions
-framed-options bs m = ap options (framed bs m ∙ ap (λ l. 2 ∷ length (drop 2 bs) ∷ l) (sym (append-nil (drop 2 bs)))) ∙ options-join (option 1 (drop 2 bs) ∷ [])
-
--- its joined objects are its objects
-pub framed-run : (bs : List ℕ) → misframed bs ≡ false → runObjects bs ≡ dataObjects bs
-unfolding containers objectsOf
-framed-run bs m = rw (framed-options bs m) (joined-nothing (split (drop 2 bs)))
-
-pub one-container : OneContainer
-unfolding readRun reading containers
-one-container bs m = rw (framed-run bs m, framed-options bs m, m)
+-- ---- one container written
 
 pack-one : (es os : List Object) → length (join (es ++ os)) ≤ 255 → packFrom es os ≡ (es ++ os) ∷ []
 unfolding packFrom
