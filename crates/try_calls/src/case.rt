@@ -16,7 +16,18 @@ const WORD: u64 = 4294967295;
 const MOST: u64 = 18446744073709551615;
 
 // The limits of minhop, maxincrease, lowest, nodetype, flags, energy, edition, current, room and count.
-const OWN: [u64; 10] = [SHORT, SHORT, SHORT, BYTE, BYTE, BYTE, BYTE, MOST, 2100, MOST];
+const OWN: [u64; 10] = [
+    SHORT,
+    SHORT,
+    SHORT,
+    BYTE,
+    BYTE,
+    BYTE,
+    BYTE,
+    MOST,
+    2100,
+    MOST,
+];
 
 // The limits of rank, sp, rf, sr, nodetype, flags, energy, lql, etx, latency, throughput, colour, order, preference, start and size.
 const CANDIDATE: [u64; 16] = [
