@@ -24,7 +24,8 @@ use Rattle.wire.specs.declared.options.Start.{Start}
 use Rattle.wire.specs.Step.{stepAt, objectOf, objectIn}
 use Rattle.wire.specs.Entry.{entryAt}
 use Rattle.wire.specs.Start.{startOf}
-use Rattle.wire.proofs.RunWalkLaws.{RunWalked, run-first, run-found, run-enter, run-short, run-cut, run-end}
+use Rattle.wire.specs.Walk.{RunWalked}
+use Rattle.wire.proofs.RunWalkLaws.{run-first, run-found, run-enter, run-short, run-cut, run-end}
 use Rattle.hop.specs.declared.plan.Filled.{Filled}
 use Rattle.hop.specs.declared.plan.Planned.{Planned}
 use Rattle.hop.specs.declared.plan.Sent.{Sent}

@@ -33,7 +33,8 @@ use Rattle.wire.specs.Step.{stepAt, objectOf, objectIn}
 use Rattle.wire.specs.Entry.{entryAt}
 use Rattle.wire.specs.Start.{startOf}
 use Rattle.wire.proofs.PutLaws.{put-cons, put-before}
-use Rattle.wire.proofs.RunWalkLaws.{RunWalked, run-first, run-found, run-rest, run-enter, run-short, run-cut, run-end}
+use Rattle.wire.specs.Walk.{RunWalked}
+use Rattle.wire.proofs.RunWalkLaws.{run-first, run-found, run-rest, run-enter, run-short, run-cut, run-end}
 use Rattle.hop.specs.declared.plan.Sent.{Sent}
 use Rattle.hop.specs.declared.sending.Place.{Place}
 use Rattle.hop.specs.Sent.{unfit, sendsObjects, sends, sentOf}
