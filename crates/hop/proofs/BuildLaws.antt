@@ -2,7 +2,7 @@
 use mathlib.Core.Path.{_≡_, refl, sym, ap, _∙_}
 use Prim.Native.Nat.{ℕ, zero, suc, _+_, _-_, _≤_, _<_}
 use native.Mathlib.Omega.{arith}
-use mathlib.Core.Bool.{Bool, true, false, cond}
+use mathlib.Core.Bool.{Bool, true, false}
 use mathlib.Core.List.{List, [], _∷_, _++_, append-assoc, append-nil}
 use lib.ListN.{length, getD, set, take, drop, length-append, length-set}
 use lib.Dec.{leb}
@@ -20,8 +20,9 @@ use Rattle.wire.specs.Put.{Put}
 use Rattle.wire.specs.Step.{objectOf}
 use Rattle.wire.proofs.PutLaws.{put-nothing, put-append, put-before, put-length}
 use Rattle.hop.specs.declared.sending.Place.{Place}
-use Rattle.hop.specs.Planned.{bytesIn, Builds}
-use Rattle.hop.proofs.PackingLaws.{pack-within, pack-next, pack-last, bytes-first, join-one, length-one}
+use Rattle.hop.specs.Planned.{bytesIn}
+use Rattle.hop.specs.Built.{Builds}
+use Rattle.hop.proofs.PackingLaws.{pack-within, pack-next, pack-last, bytes-first, length-one}
 use Rattle.hop.proofs.PlanLaws.{bodyNext, length-object}
 
 -- ---- room in the array

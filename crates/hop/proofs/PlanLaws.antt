@@ -31,7 +31,7 @@ use Rattle.hop.specs.declared.plan.Filled.{Filled}
 use Rattle.hop.specs.declared.plan.Planned.{Planned}
 use Rattle.hop.specs.declared.plan.Passed.{Passed}
 use Rattle.hop.specs.declared.plan.Sent.{Sent}
-use Rattle.model.specs.Pack.{unpackable, packed}
+use Rattle.model.specs.Pack.{unpackable}
 use Rattle.hop.specs.Sent.{sendsObjects, sentOf}
 use Rattle.hop.specs.Planned.{Small, Fills, Plans, Passes}
 use Rattle.hop.proofs.PackingLaws.{fills-first, packs-size}

@@ -41,7 +41,7 @@ use Rattle.hop.specs.declared.plan.Sent.{Sent}
 use Rattle.hop.specs.declared.sending.Place.{Place}
 use Rattle.hop.specs.declared.sending.Part.{Part}
 use Rattle.hop.specs.Sent.{unfit, sendsObjects, sends, sentOf}
-use Rattle.hop.specs.Planned.{Fits, FitsPart, Builds, Opens}
+use Rattle.hop.specs.Built.{Fits, FitsPart, Builds, OpensFor, Opens, OpensPart}
 use Rattle.hop.proofs.PackingLaws.{has-room}
 use Rattle.hop.proofs.PlanLaws.{bodyNext, join-next}
 use Rattle.hop.proofs.PartLaws.{Within, within-first, within-found, within-rest, within-end, within-short, from-part, from-whole, one-part, past-end, at-end}
@@ -133,21 +133,17 @@ module _ (own : Own) (c : Neighbour) (l whole : List ℕ) (place : Place) (m a :
 -- the object at the cursor, for which there is room now
 pub opens-found : (own : Own) (c : Neighbour) {l whole m a m′ a′ : List ℕ} {place place′ : Place} (bs : List ℕ) (k : Cursor) (os rest : List Object) {h : Header} {start stop : ℕ} {n : Cursor}
     → stepAt bs k ≡ Found h start stop n → split (drop (k .at) bs) ≡ some os → anyOf isOverlong (update own c os) ≡ false → Builds l whole place m a (update own c (os ++ rest))
-    → ((own : Own) (l whole : List ℕ) (rest : List Object) → length (bytesOf (updateObject own c (objectIn bs h start stop))) ≤ 255
-    → Builds l whole place m a (updateObject own c (objectIn bs h start stop) ∷ rest) → Builds l whole place′ m′ a′ (updateObject own c (objectIn bs h start stop) ∷ rest))
-    → ((own : Own) → length (bytesOf (updateObject own c (objectIn bs h start stop))) ≤ 255 → place′ .at + length (bytesOf (updateObject own c (objectIn bs h start stop))) ≤ 257)
+    → OpensFor c h (take (stop - start) (drop start bs)) place m a place′ m′ a′
     → Opens own c l whole (record { place = place′; last = stop }) m′ a′ bs k (os ++ rest)
 unfolding join
-opens-found own c {l} {whole} bs k os rest {h} {start} {stop} e q u b f g =
+opens-found own c {l} {whole} bs k os rest {h} {start} {stop} e q u b f =
     let o = objectIn bs h start stop in
     let (others, s) = within-rest bs k k [] (within-first bs k) e os q in
     let (x, y) = neither (isOverlong (updateObject own c o)) _ (ap (λ x. anyOf isOverlong (update own c x)) (sym s) ∙ u) in
     let n = ltb-false 255 (length (bytesOf (updateObject own c o))) x in
     let i = length-append (updateObject own c o .body) [] in
-    record {
-      builds = rw s (f own l whole (update own c (others ++ rest)) n (rw s at b));
-      fits = record { objects = o ∷ []; whole = one-part bs k e; room = omega (arith, g own n) };
-    }
+    let (y, r) = f own l whole (update own c (others ++ rest)) n (rw s at b) in
+    record { builds = rw s y; fits = record { objects = o ∷ []; whole = one-part bs k e; room = omega (arith, r) } }
 
 -- nothing is cut short in a container whose objects are whole
 pub opens-short : {A : Type 0} (bs : List ℕ) (k : Cursor) (os : List Object) → split (drop (k .at) bs) ≡ some os → stepAt bs k ≡ CutShort → A
@@ -185,9 +181,7 @@ module _ (own : Own) (c : Neighbour) (l run : List ℕ) (os : List Object) where
     pub placing-inside : k .at ≤ length (take end run)
     placing-inside = rw (length-take-le end run (w .inside .1)) (w .inside .0)
 
-    module _ (many : Bool) (r : Part) (m′ a′ : List ℕ)
-        (f : (own : Own) (l whole : List ℕ) (os rest : List Object) → split (slice (k .at) end run) ≡ some os → anyOf isOverlong (update own c os) ≡ false → (many ≡ false → length whole ≤ 257)
-        → Builds l whole place m a (update own c (os ++ rest)) → Opens own c l whole r m′ a′ (take end run) k (os ++ rest))
+    module _ (many : Bool) (r : Part) (m′ a′ : List ℕ) (f : OpensPart c (take end run) k many place m a r m′ a′)
         (one : many ≡ false → length (packed (update own c os)) ≤ 257) where
       -- a part is opened
       pub placing-opens : Opens own c l (packed (update own c os)) r m′ a′ (take end run) k (w .rest)

@@ -18,7 +18,7 @@ ghost use Rattle.wire.specs.Start.{startOf};
 ghost use Rattle.wire.specs.Step.{objectOf};
 ghost use Rattle.wire.specs.Put.{Put};
 ghost use Rattle.hop.specs.Sent.{unfit, sends, sentOf};
-ghost use Rattle.hop.specs.Planned.{Fits, FitsPart, Builds, Opens};
+ghost use Rattle.hop.specs.Built.{Fits, FitsPart, OpensFor, OpensPart};
 use crate::bodies;
 use crate::bytes;
 use crate::plan;
@@ -139,8 +139,7 @@ fn open_for(
 ) -> Place
     requires { ⌜ (2 ≤ place .at) × (place .at ≤ 257) × (length (now array) ≡ 257) ⌝ }
     requires { ⌜ place .done + place .at ≤ length (now out) ⌝ }
-    ensures { λ r. ⌜ ((own : Own) (l whole : List ℕ) (rest : List Object) → length (bytesOf (updateObject own neighbour (objectOf header (now (body .entry))))) ≤ 255 → Builds l whole place (now (out .entry)) (now (array .entry)) (updateObject own neighbour (objectOf header (now (body .entry))) ∷ rest) → Builds l whole r (now (out .exit)) (now (array .exit)) (updateObject own neighbour (objectOf header (now (body .entry))) ∷ rest)) ⌝ }
-    ensures room { λ r. ⌜ ((own : Own) → length (bytesOf (updateObject own neighbour (objectOf header (now (body .entry))))) ≤ 255 → r .at + length (bytesOf (updateObject own neighbour (objectOf header (now (body .entry))))) ≤ 257) ⌝ }
+    ensures { λ r. ⌜ OpensFor neighbour header (now (body .entry)) place (now (out .entry)) (now (array .entry)) r (now (out .exit)) (now (array .exit)) ⌝ }
 {
     if has_room(place.at, neighbour, header, body) {
         return place;
@@ -165,7 +164,7 @@ fn open_part(
     requires { ⌜ (2 ≤ place .at) × (place .at ≤ 257) × (length (now array) ≡ 257) ⌝ }
     requires { ⌜ place .done + place .at ≤ length (now out) ⌝ }
     requires { ⌜ cursor .at ≤ length (now container) ⌝ }
-    ensures { λ r. ⌜ ((own : Own) (l whole : List ℕ) (os rest : List Object) → split (drop (cursor .at) (now (container .entry))) ≡ some os → anyOf isOverlong (update own neighbour os) ≡ false → (many ≡ false → length whole ≤ 257) → Builds l whole place (now (out .entry)) (now (array .entry)) (update own neighbour (os ++ rest)) → Opens own neighbour l whole r (now (out .exit)) (now (array .exit)) (now (container .entry)) cursor (os ++ rest)) ⌝ }
+    ensures { λ r. ⌜ OpensPart neighbour (now (container .entry)) cursor many place (now (out .entry)) (now (array .entry)) r (now (out .exit)) (now (array .exit)) ⌝ }
     ensures inside { λ r. ⌜ (cursor .at ≤ r .last) × (r .last ≤ length (now (container .entry))) × ((r .last ≡ length (now (container .entry)) → ⊥) → cursor .at < r .last) ⌝ }
 {
     if !many {

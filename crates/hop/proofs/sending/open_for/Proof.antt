@@ -12,7 +12,7 @@ has-room-requires : tie.Need-has-room-requires
 has-room-requires c κs = search needs
 
 returns : tie.Need-returns
-returns c = (λ own l whole rest n p. p, λ own n. leb-true _ _ (sym (c .before .has-room .ensures own) ∙ c .if1 .taken))
+returns c = λ own l whole rest n p. (p, leb-true _ _ (sym (c .before .has-room .ensures own) ∙ c .if1 .taken))
 
 flush-requires : tie.Need-flush-requires
 flush-requires c κs = search needs
@@ -27,7 +27,7 @@ returns-2 : tie.Need-returns-2
 returns-2 c =
     let s = c .before .before .before .before .before .before .before .before .before .before .before .before in
     let flush = c .before .before .before .before .flush in
-    (λ own l whole rest n p. builds-next (updateObject own (s .args .neighbour) (objectOf (s .args .header) (s .args .body .now))) p n (leb-false _ _ (sym (c .before .before .before .before .before .before .before .before .has-room .ensures own) ∙ c .before .before .before .before .before .before .before .if1 .left)) (flush .ensures .0) (flush .ensures .1), λ own n. omega arith)
+    λ own l whole rest n p. (builds-next (updateObject own (s .args .neighbour) (objectOf (s .args .header) (s .args .body .now))) p n (leb-false _ _ (sym (c .before .before .before .before .before .before .before .before .has-room .ensures own) ∙ c .before .before .before .before .before .before .before .if1 .left)) (flush .ensures .0) (flush .ensures .1), omega arith)
 
 pub open-for-spec : {M : Type 1} → statement M
 open-for-spec =

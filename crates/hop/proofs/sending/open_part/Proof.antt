@@ -45,7 +45,7 @@ returns-2 c =
     let e = (sym (c .before .before .before .before .before .before .before .before .before .before .before .next .ensures) ∙ c .before .before .before .before .before .before .before .before .before .header .given .1) in
     let f = found _ _ e in
     let opened = c .before .before .before .before .open-for .ensures in
-    (λ own l whole os rest q u one b. opens-found own _ _ _ os rest e q u b (opened .0) (opened .1), omega (arith, f .start-at, f .end-at, f .within))
+    (λ own l whole os rest q u one b. opens-found own _ _ _ os rest e q u b opened, omega (arith, f .start-at, f .end-at, f .within))
 
 returns-3 : tie.Need-returns-3
 returns-3 c = (λ own l whole os rest q u one b. opens-short _ _ os q (sym (c .before .before .next .ensures) ∙ c .enum-told .given .1), (c .before .before .before .before .before .before .before .pre .1 .1, omega arith, λ f. absurd (f refl)))
