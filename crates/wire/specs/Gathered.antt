@@ -4,9 +4,9 @@ use Prim.Native.Nat.{ℕ, zero, suc, _+_}
 use mathlib.Core.Bool.{Bool, cond, not}
 use mathlib.Core.List.{List, []}
 use mathlib.Core.Option.{some}
-use lib.ListN.{getD, drop}
+use lib.ListN.{getD}
 use Rattle.model.specs.Number.{anyOf, number, firstOf, indexOf}
-use Rattle.model.specs.Object.{Object, latency, etx, split, standings}
+use Rattle.model.specs.Object.{Object, latency, etx, standings}
 use Rattle.model.specs.Reading.{isNone, noPlace, objectBar, readObjects}
 use Rattle.model.specs.Reading as model
 use Rattle.model.specs.Constraint.{countsHops, addsUp, summary, mandatory}
@@ -18,6 +18,7 @@ use Rattle.wire.specs.declared.container.Reading.the-variants.{Refused}
 use Rattle.wire.specs.Seen.{seenAfter}
 use Rattle.wire.specs.Mandatory.{showsMandatory}
 use Rattle.wire.specs.Reading.{toldOf}
+use Rattle.wire.specs.Walk.{objectsFrom}
 
 -- what is told so far
 abbrev pub toldIn : Gathered → Told
@@ -48,13 +49,13 @@ pub record Gathers (g : Gathered) (es : List Object) : Type 0 where
   pub told : g .number ≡ 0 → toldIn g ≡ toldOf (summary es)
   pub shown : g .number ≡ 0 → showsMandatory (g .flags) ≡ anyOf mandatory es
 
--- the reading of a container whose objects are whole
+-- the reading of a run whose objects are whole
 abbrev pub wholeReading : List Object → model.Reading
 wholeReading os = readObjects (some os)
 
--- no header or body runs past the end from a cursor on
-unfoldable pub wholeFrom : List ℕ → Cursor → Bool
-wholeFrom bs p = not (isNone (split (drop (p .at) bs)))
+-- no header or body runs past the end of its container, and no option is cut short, from a cursor on, whose container ends at an index
+unfoldable pub wholeFrom : List ℕ → (end : ℕ) → Cursor → Bool
+wholeFrom run end p = not (isNone (objectsFrom run end p))
 
 -- a bar among 15 to 17 where the objects behind it are whole, else bar 14
 abbrev pub barredBy : (whole : Bool) → (number place : ℕ) → Reading
