@@ -8,9 +8,9 @@ use mathlib.Core.Option.{Option, none, some, Option·none-ne-some}
 use lib.ListN.{length, take, drop, length-drop, take-append-drop}
 use lib.Seq.{slice, length-slice, length-take-le, take-add, take-at, drop-at, drop-append-le}
 use borrow.Author.Tests.{le-leb}
-use Rattle.model.specs.Object.{Object, before, split, join, bytesOf}
+use Rattle.model.specs.Object.{Object, before, split, join, bytesOf, behind}
 use Rattle.model.specs.Run.{joined, runObjects}
-use Rattle.model.proofs.ObjectLaws.{behind, split-append, split-join, join-split}
+use Rattle.model.proofs.ObjectLaws.{split-append, split-join, join-split}
 use Rattle.wire.specs.declared.objects.Header.{Header}
 use Rattle.wire.specs.declared.objects.Cursor.{Cursor}
 use Rattle.wire.specs.declared.objects.Step.the-variants.{Found, CutShort, End}

@@ -11,10 +11,10 @@ use borrow.Author.Tests.{lt-ltb, le-ltb}
 use Rattle.model.specs.declared.Own.{Own}
 use Rattle.model.specs.declared.Neighbour.{Neighbour}
 use Rattle.model.specs.Number.{first, firstOf}
-use Rattle.model.specs.Object.{Object, kindOf, roleOf, split, join, bytesOf}
+use Rattle.model.specs.Object.{Object, kindOf, roleOf, split, join, bytesOf, behind}
 use Rattle.model.specs.Run.{runObjects}
 use Rattle.model.specs.Update.{nextBody, updateObject, update, objectLeaf, tooLong, leafAnswer}
-use Rattle.model.proofs.ObjectLaws.{behind, join-append}
+use Rattle.model.proofs.ObjectLaws.{join-append}
 use Rattle.model.proofs.FirstLaws.{first-snoc}
 use Rattle.model.proofs.ShapeLaws.{update-append}
 use Rattle.wire.specs.declared.objects.Header.{Header}
