@@ -12,7 +12,7 @@ summary-of-requires : tie.Need-summary-of-requires
 summary-of-requires c κs = search needs
 
 first-barring-requires : tie.Need-first-barring-requires
-first-barring-requires c κs = c .before .before .before .pre
+first-barring-requires c κs = (c .before .before .before .pre .0, c .before .before .before .pre .1)
 
 returns-2 : tie.Need-returns-2
 returns-2 c = λ os q w. bars-by _ _ _ _ w (c .before .summary-of .ensures) (c .first-barring .ensures os q)
