@@ -118,8 +118,43 @@ fn colours() -> Vec<u8> {
     data.0
 }
 
+/// A container with such data.
+fn framed(data: Vec<u8>) -> Vec<u8> {
+    let mut container = vec![2, data.len() as u8];
+    container.extend(data);
+    container
+}
+
+/// Eight full containers: recorded metrics in the first, in each of the others one object of unknown type.
+fn eight_full() -> Vec<u8> {
+    let mut run = framed(recorded(255));
+    for _ in 0..7 {
+        let mut data = Data(Vec::new());
+        data.object(200, 0, RECORDED, &[0x5A; 251]);
+        run.extend(framed(data.0));
+    }
+    run
+}
+
+/// So many containers of minimal objects.
+fn containers(count: usize) -> Vec<u8> {
+    framed(minimal_objects(255)).repeat(count)
+}
+
+/// A container behind 1,000 times Pad1.
+fn padded(data: Vec<u8>) -> Vec<u8> {
+    let mut run = vec![0; 1000];
+    run.extend(framed(data));
+    run
+}
+
 /// A call whose candidates have such containers, one behind another, at rising ranks.
 fn call(count: usize, flags: u8, data_of: impl Fn(usize) -> Vec<u8>) -> Input {
+    call_on(count, flags, |position| framed(data_of(position)))
+}
+
+/// A call whose candidates have such runs of options.
+fn call_on(count: usize, flags: u8, run_of: impl Fn(usize) -> Vec<u8>) -> Input {
     let mut input = Input {
         own: Own {
             minhop: 256,
@@ -135,7 +170,7 @@ fn call(count: usize, flags: u8, data_of: impl Fn(usize) -> Vec<u8>) -> Input {
         unbarred: count as u8,
     };
     for position in 0..count {
-        let data = data_of(position);
+        let run = run_of(position);
         input.candidates[position] = Candidate {
             neighbour: Neighbour {
                 rank: 512 + 256 * position as u16,
@@ -152,10 +187,9 @@ fn call(count: usize, flags: u8, data_of: impl Fn(usize) -> Vec<u8>) -> Input {
                 ..Neighbour::default()
             },
             start: input.lent.len(),
-            size: data.len() + 2,
+            size: run.len(),
         };
-        input.lent.extend([2, data.len() as u8]);
-        input.lent.extend(data);
+        input.lent.extend(run);
     }
     input
 }
@@ -181,7 +215,7 @@ fn barred() -> Input {
     input
 }
 
-/// The input of a name, its containers of so many data bytes at most where their size is free.
+/// The input of a name, its containers of so many data bytes at most where their size is free; of `runs`, so many containers.
 pub fn named(name: &str, size: usize) -> Option<Input> {
     match name {
         "typical" => Some(call(6, ALL_KNOWN, typical)),
@@ -193,6 +227,9 @@ pub fn named(name: &str, size: usize) -> Option<Input> {
         "colours" => Some(call(16, ALL_KNOWN, |_| colours())),
         "optional" => Some(call(16, ALL_KNOWN, |_| one_optional(size))),
         "second" => Some(second_edition()),
+        "eight" => Some(call_on(16, 0x04, |_| eight_full())),
+        "runs" => Some(call_on(16, ALL_KNOWN, |_| containers(size))),
+        "pads" => Some(call_on(6, ALL_KNOWN, |position| padded(typical(position)))),
         "nobody" => Some(call(0, ALL_KNOWN, typical)),
         "barred" => Some(barred()),
         _ => None,

@@ -60,7 +60,7 @@ fn input_of(name: &str, size: &str) -> Input {
 
 /// Calls so often, and prints nanoseconds a call; both implementations must give one answer, and the input be what it says.
 fn run(call: Call, mut input: Input, calls: u32) {
-    let (mut mine, mut other) = ([0xEE; 257], [0xEE; 257]);
+    let (mut mine, mut other) = ([0xEE; 2056], [0xEE; 2056]);
     let answer = bench_library(&mut input, &mut mine);
     if answer != bench_reference(&mut input, &mut other) || mine != other {
         fail("the two implementations differ on this input");

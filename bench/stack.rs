@@ -16,7 +16,7 @@ pub fn deepest(call: Call, input: Input) -> usize {
 }
 
 fn measure(call: Call, mut input: Input) -> usize {
-    let mut out = [0u8; 257];
+    let mut out = [0u8; 2056];
     // once before, so that nothing is resolved or mapped while the paint is there
     std::hint::black_box(call(&mut input, &mut out));
     let top: usize;

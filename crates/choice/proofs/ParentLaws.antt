@@ -14,20 +14,21 @@ use Rattle.model.specs.declared.Candidate.{Candidate}
 use Rattle.model.specs.declared.Verdict.the-variants.{Unbarred}
 use Rattle.model.specs.declared.Choice.the-variants.{Parent}
 use Rattle.model.specs.Object.{Object}
-use Rattle.model.specs.Reading.{wellFormed, reading}
+use Rattle.model.specs.Reading.{wellFormed}
+use Rattle.model.specs.Run.{readRun}
 use Rattle.model.specs.Verdict.{runOf, verdict, isUnbarred}
 use Rattle.model.specs.Choice.{currentOf, outgoingRead, outgoing, verdicts, choiceOf}
 use Rattle.model.proofs.ListLaws.{at-below, map-at, getD-at}
 use Rattle.model.proofs.ChoiceLaws.{choose-unbarred}
-use Rattle.model.proofs.ReadingLaws.{reading-objects}
-use Rattle.model.proofs.VerdictLaws.{Admitted, admitted, in-range, container-short}
+use Rattle.model.proofs.RunLaws.{run-objects}
+use Rattle.model.proofs.VerdictLaws.{Admitted, admitted, in-range}
 use Rattle.hop.specs.Sent.{sends}
 
--- a well-formed container in range is sent on as the model has it
-sends-read : (own : Own) (c : Neighbour) (bs : List ℕ) (room : ℕ) (os : List Object) → reading bs ≡ wellFormed os → own .nodetype ≤ 3 → c .lql ≤ 7 → c .colour ≤ 1023 → length bs ≤ 257
-    → 257 ≤ room → sends own c bs room ≡ outgoingRead own c (reading bs)
+-- a well-formed run in range is sent on as the model has it
+sends-read : (own : Own) (c : Neighbour) (bs : List ℕ) (room : ℕ) (os : List Object) → readRun bs ≡ wellFormed os → own .nodetype ≤ 3 → c .lql ≤ 7 → c .colour ≤ 1023
+    → 2056 ≤ room → sends own c bs room ≡ outgoingRead own c (readRun bs)
 unfolding sends
-sends-read own c bs room os e t l k s m = rw (le-ltb 3 (own .nodetype) t, le-ltb 7 (c .lql) l, le-ltb 1023 (c .colour) k, le-ltb 257 (length bs) s, le-ltb room 257 m, e, reading-objects bs os e .objects)
+sends-read own c bs room os e t l k m = rw (le-ltb 3 (own .nodetype) t, le-ltb 7 (c .lql) l, le-ltb 1023 (c .colour) k, le-ltb room 2056 m, e, run-objects bs os e .objects)
 
 module _ (own : Own) (cs : List Candidate) (lent : List ℕ) (n : ℕ) (d : Candidate) (p : ℕ) (r : Offer) (e : choiceOf own (take n cs) lent ≡ Parent p r) where
   -- the parent at its position in the array
@@ -45,16 +46,16 @@ module _ (own : Own) (cs : List Candidate) (lent : List ℕ) (n : ℕ) (d : Cand
       let u : isUnbarred (verdict own lent (getD cs p d)) ≡ true = rw (s, v) in
       record { stands = rw s at; below = omega arith; admits = admitted own lent (getD cs p d) u }
 
-  -- its container lies in the lent run
+  -- its run lies in the lent bytes
   pub parent-inside : getD cs p d .start + getD cs p d .size ≤ length lent
   parent-inside = ltb-false (length lent) (getD cs p d .start + getD cs p d .size) (parent-at .admits .inside)
 
   -- what is sent on for it
-  pub parent-sends : (room : ℕ) → own .nodetype ≤ 3 → 257 ≤ room → getD lent (getD cs p d .start + 1) 0 ≤ 255
+  pub parent-sends : (room : ℕ) → own .nodetype ≤ 3 → 2056 ≤ room
       → sends own (getD cs p d .neighbour) (runOf lent (getD cs p d)) room ≡ outgoing own (take n cs) lent (Parent p r)
   unfolding outgoing
-  parent-sends room t m b =
+  parent-sends room t m =
       let x = parent-at in
       let a = x .admits in
       let (i, j, q, k) = in-range own (getD cs p d .neighbour) (a .inRange) in
-      rw (x .stands) (sends-read own (getD cs p d .neighbour) (runOf lent (getD cs p d)) room (a .objects) (a .read) t q k (container-short lent (getD cs p d) (a .objects) (a .read) b) m)
+      rw (x .stands) (sends-read own (getD cs p d .neighbour) (runOf lent (getD cs p d)) room (a .objects) (a .read) t q k m)

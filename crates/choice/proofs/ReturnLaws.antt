@@ -44,7 +44,7 @@ module _ (own : Own) (cs : List Candidate) (n : ℕ) (lent out : List ℕ) where
   pub record Runs : Type 0 where
     pub few : n ≤ 16
     pub knownType : own .nodetype ≤ 3
-    pub room : 257 ≤ length out
+    pub room : 2056 ≤ length out
 
   pub runs : {k : ℕ} → k ≡ refusal own n (length out) → k ≡ 0 → Runs
   runs e z =
@@ -66,7 +66,7 @@ module _ (own : Own) (cs : List Candidate) (n : ℕ) (lent out : List ℕ) where
     unfolding outgoing
     nobody-returns b a = rw a (answered-returns Nobody b _ refl)
 
-    module _ (d : Candidate) (p : ℕ) (offer : Offer) (byte : getD lent (getD cs p d .start + 1) 0 ≤ 255) where
+    module _ (d : Candidate) (p : ℕ) (offer : Offer) where
       pub parent-returns : {r : Answer} {s : Sent} {left : List ℕ} → best ≡ Parent p offer
           → (let c = getD cs p d in let o = sends own (c .neighbour) (take (c .start + c .size - c .start) (drop (c .start) lent)) (length out) in
           (s ≡ sentOf o) × (left ≡ outputOf o out))
@@ -76,7 +76,7 @@ module _ (own : Own) (cs : List Candidate) (n : ℕ) (lent out : List ℕ) where
           let c = getD cs p d in
           let u = runs e z in
           let f : sends own (c .neighbour) (take (c .start + c .size - c .start) (drop (c .start) lent)) (length out) ≡ outgoing own (take n cs) lent (Parent p offer) =
-          rw (add-sub-cancel-left (c .start) (c .size)) (parent-sends own cs lent n d p offer (sym (g .chosen) ∙ b) (length out) (u .knownType) (u .room) byte) in
+          rw (add-sub-cancel-left (c .start) (c .size)) (parent-sends own cs lent n d p offer (sym (g .chosen) ∙ b) (length out) (u .knownType) (u .room)) in
           rw (a, x, y) (answered-returns (Parent p offer) b _ f)
 
 -- both parts of the contract, and what demand 3 asks of them

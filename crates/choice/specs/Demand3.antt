@@ -14,7 +14,7 @@ pub record Returned (own : Own) (array : List Candidate) (count : ℕ) (lent out
   pub answer : r .answer ≡ call own (given array count) lent out .answer
   pub output : r .output ≡ call own (given array count) lent out .output
 
--- whatever two calls return, the first not refused and the second over its containers, cut, meets demand 3
+-- whatever two calls return, the first not refused and the second over its runs, cut, meets demand 3
 abbrev pub Demand3OfCall : Type 0
 Demand3OfCall = (own : Own) (cs cs′ : List Candidate) (n : ℕ) (lent lent′ out out′ : List ℕ) (r r′ : Result)
     → Returned own cs n lent out r → Returned own cs′ n lent′ out′ r′ → Each (CutBeside lent lent′) (given cs n) (given cs′ n)

@@ -1,4 +1,4 @@
-// The call: refusals, a verdict on each candidate, the preferred parent, and the container for the next hop.
+// The call: refusals, a verdict on each candidate, the preferred parent, and the containers for the next hop.
 ghost use mathlib.Core.Path.{_≡_};
 ghost use Rattle.model.specs.Choice.{call};
 ghost use Rattle.choice.specs.Given.{given};
@@ -25,7 +25,7 @@ pub use differences::first_difference;
 pub use preference::better;
 pub use refusals::refusal_of;
 
-// The whole call: refusals, a verdict on each candidate, the preferred parent, and the container for the next hop in the output.
+// The whole call: refusals, a verdict on each candidate, the preferred parent, and the containers for the next hop in the output.
 pub fn call(
     own: Own,
     candidates: [Candidate; 16],

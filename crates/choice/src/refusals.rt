@@ -37,7 +37,7 @@ pub fn refusal_of(own: Own, count: usize, room: usize) -> u8
     if is_past(own, count) {
         return 3;
     }
-    if room < 257 {
+    if room < 2056 {
         return 4;
     }
     if is_bad_edition(own) {

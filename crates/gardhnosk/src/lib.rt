@@ -4,15 +4,17 @@ ghost use lib.ListN.{length};
 ghost use Rattle.model.specs.Choice.{call};
 ghost use Rattle.choice.specs.Given.{given};
 ghost use Rattle.choice.specs.Demand3.{Returned};
+ghost use Rattle.feed.specs.Step.{fed, fedIn};
 ghost use Rattle.listing.specs.Listed.{listed, listedIn};
 ghost use Rattle.meaning.specs.Meaning.{told, toldIn};
 ghost use Rattle.gardhnosk.specs.Texts.{sizeOf};
+use feed::Fed;
 use listing::Listed;
 use model::Answer;
 use model::Candidates;
 use model::Own;
 
-// Chooses a preferred parent, and writes the container for the next hop.
+// Chooses a preferred parent, and writes the containers for the next hop.
 #[no_mangle]
 pub extern "C" fn gardhnosk_choose(
     own: Own,
@@ -27,6 +29,15 @@ pub extern "C" fn gardhnosk_choose(
 {
     let at = candidates.at;
     choice::call(own, at, count, lent, out)
+}
+
+// Takes the next part of a run into a lent buffer; answers the state for the part behind it.
+#[no_mangle]
+pub extern "C" fn gardhnosk_feed(state: Fed, part: &[u8], kept: &mut [u8]) -> Fed
+    ensures { λ r. ⌜ r ≡ fed state (now (part .entry)) (length (now (kept .entry))) ⌝ }
+    ensures written { λ r. ⌜ now (kept .exit) ≡ fedIn state (now (part .entry)) (now (kept .entry)) ⌝ }
+{
+    feed::feed(state, part, kept)
 }
 
 // The length of a text as C receives it: 2^64 - 1 where the output is too short for any text.

@@ -45,7 +45,7 @@ unfolding meaning codesFrom wordsIn table short
 meaning-short n h = leb-true (length (meaning n)) meaningRoom (at-each short 37 n refl h)
 
 -- all words
-pub all-length : length (wordsBefore 37) ≡ 1416
+pub all-length : length (wordsBefore 37) ≡ 1509
 unfolding wordsBefore meaning codesFrom wordsIn table
 all-length = refl
 

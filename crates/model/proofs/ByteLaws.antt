@@ -40,7 +40,7 @@ byte b h = le-ltb 255 b h
 both-bytes : (xs ys : List ℕ) → Bytes xs → Bytes ys → Bytes (xs ++ ys)
 both-bytes xs ys p q = any-append (λ b. ltb 255 b) xs ys ∙ rw (p, q)
 
-part-bytes : (xs ys : List ℕ) → Bytes (xs ++ ys) → Bytes xs × Bytes ys
+pub part-bytes : (xs ys : List ℕ) → Bytes (xs ++ ys) → Bytes xs × Bytes ys
 part-bytes xs ys h = neither (anyOf (λ b. ltb 255 b) xs) (anyOf (λ b. ltb 255 b) ys) (sym (any-append (λ b. ltb 255 b) xs ys) ∙ h)
 
 take-bytes : (n : ℕ) (xs : List ℕ) → Bytes xs → Bytes (take n xs)

@@ -201,7 +201,7 @@ pub joined-nil : (r : Option (List Object)) → joined r (some []) ≡ r
 joined-nil none = refl
 joined-nil (some os) = ap some (append-nil os)
 
-framed-options : (bs : List ℕ) → misframed bs ≡ false → options bs ≡ some (option 1 (drop 2 bs) ∷ [])
+pub framed-options : (bs : List ℕ) → misframed bs ≡ false → options bs ≡ some (option 1 (drop 2 bs) ∷ [])
 unfolding options optionsUpTo
 framed-options bs e = ap options (framed bs e) ∙ go (drop 2 bs)
   where

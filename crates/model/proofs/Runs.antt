@@ -1,4 +1,4 @@
--- Runs of options beside one container, with options that are stepped over, and packed by next-fit.
+-- Objects that fit one container; options that are stepped over; next-fit of what is passed on.
 use mathlib.Core.Path.{_≡_, refl, sym, ap, _∙_}
 use Prim.Native.Nat.{ℕ, zero, suc, _+_, _≤_, _<_}
 use native.Mathlib.Omega.{arith}
@@ -15,35 +15,16 @@ use Rattle.model.specs.Cut.{keepIf}
 use Rattle.model.specs.Run.{RplOption, pad1, option, optionBytes, joinOptions, optionsUpTo, options, isContainer, containers, joined, objectsOf, optionsIn, joinedObjects, runObjects, readRun}
 use Rattle.model.specs.Update.{update}
 use Rattle.model.specs.Pack.{packFrom, pack, containerOption, packed}
-use Rattle.model.specs.Runs.{OneContainer, OnePacked, isContainerOption, NoContainer, Skips, OpensLate, NextFit}
+use Rattle.model.specs.Runs.{OnePacked, isContainerOption, NoContainer, Skips, OpensLate, NextFit}
 use Rattle.model.proofs.BoolLaws.{neither}
 use Rattle.model.proofs.ObjectLaws.{split-join, join-append}
-use Rattle.model.proofs.ReadingLaws.{framed}
 use Rattle.model.proofs.RunLaws.{following, options-append, options-join}
 use Rattle.model.proofs.PackLaws.{join-one, data-options}
 use Rattle.model.proofs.Selection.{selection}
 use Rattle.model.proofs.ByteLaws.{containers-are}
 use Rattle.model.proofs.OutgoingLaws.{passed-is}
 
--- ---- one container
-
-joined-nothing : (r : Option (List Object)) → joined r (some []) ≡ r
-joined-nothing none = refl
-joined-nothing (some os) = ap some (append-nil os)
-
--- a container's options are itself
-pub framed-options : (bs : List ℕ) → misframed bs ≡ false → options bs ≡ some (option 1 (drop 2 bs) ∷ [])
-unfolding joinOptions
-framed-options bs m = ap options (framed bs m ∙ ap (λ l. 2 ∷ length (drop 2 bs) ∷ l) (sym (append-nil (drop 2 bs)))) ∙ options-join (option 1 (drop 2 bs) ∷ [])
-
--- its joined objects are its objects
-pub framed-run : (bs : List ℕ) → misframed bs ≡ false → runObjects bs ≡ dataObjects bs
-unfolding containers objectsOf
-framed-run bs m = rw (framed-options bs m) (joined-nothing (split (drop 2 bs)))
-
-pub one-container : OneContainer
-unfolding readRun reading containers
-one-container bs m = rw (framed-run bs m, framed-options bs m, m)
+-- ---- one container written
 
 pack-one : (es os : List Object) → length (join (es ++ os)) ≤ 255 → packFrom es os ≡ (es ++ os) ∷ []
 unfolding packFrom
@@ -81,7 +62,7 @@ unfolding readRun containers objectsOf options optionsUpTo split splitUpTo first
 no-container os h = (rw (options-join os, no-containers os h), rw (options-join os, no-containers os h) refl)
 
 -- containers of options one behind another
-containers-append : (a b : List RplOption) → containers (a ++ b) ≡ containers a ++ containers b
+pub containers-append : (a b : List RplOption) → containers (a ++ b) ≡ containers a ++ containers b
 unfolding containers
 containers-append [] b = refl
 containers-append (pad1 ∷ a) b = containers-append a b
@@ -92,10 +73,10 @@ containers-append (option t d ∷ a) b = go (isContainer t) (containers-append a
     go false ih = ih
 
 -- a run is read by its options
-abbrev readAsOptions : Option (List RplOption) → Reading
+abbrev pub readAsOptions : Option (List RplOption) → Reading
 readAsOptions r = cond (isNone r) (refused 22 noPlace) (cond (ltb 8 (length (containers (optionsIn r)))) (refused 23 noPlace) (readObjects (joinedObjects r)))
 
-read-by : (bs : List ℕ) → readRun bs ≡ readAsOptions (options bs)
+pub read-by : (bs : List ℕ) → readRun bs ≡ readAsOptions (options bs)
 unfolding readRun
 read-by bs = refl
 
@@ -115,7 +96,7 @@ stepped a o h none = refl
 stepped a o h (some b) = rw (append-assoc a (o ∷ []) b, containers-append a (o ∷ b), containers-append a b, no-more o b h)
 
 -- options end to end, one more
-options-one : (a : List RplOption) (o : RplOption) → joinOptions (a ++ (o ∷ [])) ≡ joinOptions a ++ optionBytes o
+pub options-one : (a : List RplOption) (o : RplOption) → joinOptions (a ++ (o ∷ [])) ≡ joinOptions a ++ optionBytes o
 unfolding joinOptions
 options-one [] o = append-nil (optionBytes o)
 options-one (p ∷ a) o = rw (options-one a o, append-assoc (optionBytes p) (joinOptions a) (optionBytes o))

@@ -53,6 +53,11 @@ containers [] = []
 containers (pad1 ∷ os) = containers os
 containers (option t d ∷ os) = keepIf (isContainer t) d (containers os)
 
+-- data end to end
+unfoldable pub concat : List (List ℕ) → List ℕ
+concat [] = []
+concat (d ∷ ds) = d ++ concat ds
+
 -- objects before others, if both are whole
 abbrev pub joined : Option (List Object) → Option (List Object) → Option (List Object)
 joined none r = none
@@ -108,9 +113,5 @@ unfoldable pub cutRun : List ℕ → List ℕ
 cutRun bs = joinOptions (map cutOption (optionsIn (options bs)))
 
 -- the data of all containers of a run, joined
-unfoldable pub concat : List (List ℕ) → List ℕ
-concat [] = []
-concat (d ∷ ds) = d ++ concat ds
-
 abbrev pub joinedData : List ℕ → List ℕ
 joinedData bs = concat (containersIn bs)

@@ -16,7 +16,18 @@ const WORD: u64 = 4294967295;
 const MOST: u64 = 18446744073709551615;
 
 // The limits of minhop, maxincrease, lowest, nodetype, flags, energy, edition, current, room and count.
-const OWN: [u64; 10] = [SHORT, SHORT, SHORT, BYTE, BYTE, BYTE, BYTE, MOST, 300, MOST];
+const OWN: [u64; 10] = [
+    SHORT,
+    SHORT,
+    SHORT,
+    BYTE,
+    BYTE,
+    BYTE,
+    BYTE,
+    MOST,
+    2100,
+    MOST,
+];
 
 // The limits of rank, sp, rf, sr, nodetype, flags, energy, lql, etx, latency, throughput, colour, order, preference, start and size.
 const CANDIDATE: [u64; 16] = [
@@ -129,7 +140,7 @@ fn read_candidates(text: &[u8], from: usize, count: usize) -> Candidates
 // The case of a line, from the index behind its name on. Where a number is missing, the count is 0 and so is the index behind.
 pub(crate) fn read(line: &[u8], from: usize) -> Case
     requires { ⌜ from ≤ length (now line) ⌝ }
-    ensures { λ r. ⌜ (r .room ≤ 300) × (r .next ≤ length (now (line .entry))) ⌝ }
+    ensures { λ r. ⌜ (r .room ≤ 2100) × (r .next ≤ length (now (line .entry))) ⌝ }
 {
     let limits = OWN;
     let mut row = [0u64; 10];

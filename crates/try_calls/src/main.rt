@@ -2,7 +2,7 @@
 // A case: NAME minhop maxincrease lowest nodetype flags energy edition current room count, then for each candidate (16 at most stand on
 // the line, whatever the count) rank sp rf sr nodetype flags energy lql etx latency throughput colour order preference start size, then
 // the bytes of the lent run. One space is between two words; numbers are decimal, bytes two hexadecimal digits. The numbers are the fields of `Own`
-// and `Candidate`; room is the length of the lent output, 300 at most, whose bytes are all 0xEE before the call.
+// and `Candidate`; room is the length of the lent output, 2100 at most, whose bytes are all 0xEE before the call.
 // The answer: NAME refusal parent rank bits count leaf size, `verdicts` and those of the candidates on the line, each with `@` and
 // its place if it has one, `beyond` if any other verdict or place is set, `output` and the first `size` bytes of the output, then
 // `kept` if all bytes behind them are still 0xEE, else `changed`. No parent is 255, no rank 65535, as in `Answer`. Then `why` and the
@@ -67,7 +67,7 @@ fn run_line(line: &[u8]) {
         say::unreadable(space);
         return;
     }
-    let mut out = [0xEEu8; 300];
+    let mut out = [0xEEu8; 2100];
     run_case(given, &lent[..n], &mut out);
 }
 

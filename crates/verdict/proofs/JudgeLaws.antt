@@ -1,4 +1,4 @@
--- The verdict by what reading a container gives.
+-- The verdict by what reading a run gives.
 use mathlib.Core.Path.{_≡_, refl, sym, ap, _∙_}
 use Prim.Native.Nat.{ℕ, zero, suc, _+_, _-_, _≤_, _<_}
 use native.Mathlib.Nat.{add-sub-cancel-left}
@@ -16,7 +16,8 @@ use Rattle.model.specs.declared.Summary.{Summary}
 use Rattle.model.specs.declared.Verdict.the-variants.{Barred}
 use Rattle.model.specs.Number.{anyOf, firstOf}
 use Rattle.model.specs.Object.{Object}
-use Rattle.model.specs.Reading.{noPlace, Reading, refused, wellFormed, reading}
+use Rattle.model.specs.Reading.{noPlace, Reading, refused, wellFormed}
+use Rattle.model.specs.Run.{readRun}
 use Rattle.model.specs.Constraint.{summary, constraintBar, mandatory}
 use Rattle.model.specs.Verdict.{badNumbers, rankBar, judgeRank, judgeObjects, judgeReading, verdict}
 use Rattle.model.proofs.BoolLaws.{neither}
@@ -27,12 +28,12 @@ use Rattle.wire.specs.declared.container.Reading.the-variants.{Refused, WellFor
 use Rattle.verdict.specs.declared.candidate.Barring.{Barring}
 use Rattle.verdict.specs.Judged.{ReadAs, BarsFirst}
 
--- a container that is refused
+-- a run that is refused
 pub judged-refused : (own : Own) (c : Neighbour) (x : Reading) (n p : ℕ) → Refused n p ≡ readingOf x → Barred n p ≡ judgeReading own c x
 judged-refused own c (refused m q) n p e = cc
 judged-refused own c (wellFormed os) n p e = absurd (let z : _≡_ {A = ℕ} 0 1 = cc in omega arith)
 
--- a container that is read has objects, and what was read is theirs
+-- a run that is read has objects, and what was read is theirs
 pub read-objects : (x : Reading) (n : ℕ) (k : Bool) (t : Told) → WellFormed n k t ≡ readingOf x → (os : List Object) × (x ≡ wellFormed os)
 read-objects (refused m q) n k t e = absurd (let z : _≡_ {A = ℕ} 0 1 = cc in omega arith)
 read-objects (wellFormed os) n k t e = (os, refl)
@@ -109,6 +110,6 @@ module _ (own : Own) (lent : List ℕ) (c : Candidate) where
   judged-12 e l = rw (e, lt-ltb (length lent) (c .start + c .size) l)
 
   pub judged-inside : badNumbers own (c .neighbour) ≡ false → c .start + c .size ≤ length lent
-      → judgeReading own (c .neighbour) (reading (take (c .start + c .size - c .start) (drop (c .start) lent))) ≡ verdict own lent c
+      → judgeReading own (c .neighbour) (readRun (take (c .start + c .size - c .start) (drop (c .start) lent))) ≡ verdict own lent c
   unfolding verdict
   judged-inside e l = rw (e, le-ltb (length lent) (c .start + c .size) l, add-sub-cancel-left (c .start) (c .size))

@@ -10,7 +10,8 @@ use Rattle.model.specs.declared.Summary.{Summary}
 use Rattle.model.specs.Number.{anyOf, firstOf, indexOf}
 use Rattle.model.specs.Object.{Object, kind, known, role}
 use Rattle.model.specs.Table.{row}
-use Rattle.model.specs.Reading.{shaped, reading, wellFormed}
+use Rattle.model.specs.Reading.{shaped, wellFormed}
+use Rattle.model.specs.Run.{readRun}
 use Rattle.model.specs.Constraint.{summary, mandatory, unknownMandatory, unmet, constraintBar}
 use Rattle.wire.specs.declared.container.Told.{Told}
 use Rattle.wire.specs.Reading.{toldOf}
@@ -24,12 +25,12 @@ Tabled o = known (kind o) ≡ true → shaped (role o) (row (kind o)) (o .body) 
 unfoldable pub barHolds : (bar : ℕ) → Neighbour → Summary → Object → Bool
 barHolds n c s o = cond (eqb n 18) (unknownMandatory o) (unmet c s o)
 
--- a container that is well-formed
+-- a run that is well-formed
 pub record WellFormed (bs : List ℕ) : Type 0 where
   pub objects : List Object
-  pub read : reading bs ≡ wellFormed objects
+  pub read : readRun bs ≡ wellFormed objects
 
--- what was read of a well-formed container's objects: their number, whether some are mandatory constraints, and what they tell the tests of these
+-- what was read of a well-formed run's objects: their number, whether some are mandatory constraints, and what they tell the tests of these
 pub record ReadAs (count : ℕ) (asked : Bool) (told : Told) (os : List Object) : Type 0 where
   pub objects : count ≡ length os
   pub mandatories : asked ≡ anyOf mandatory os

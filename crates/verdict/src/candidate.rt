@@ -1,8 +1,9 @@
-// The verdict on a candidate: bars 11 and 12, its container's reading, its constraints, its rank.
+// The verdict on a candidate: bars 11 and 12, its run's reading, its constraints, its rank.
 ghost use mathlib.Core.Path.{_≡_};
 ghost use mathlib.Core.List.{List};
 ghost use Rattle.model.specs.Object.{Object};
-ghost use Rattle.model.specs.Reading.{reading, wellFormed};
+ghost use Rattle.model.specs.Reading.{wellFormed};
+ghost use Rattle.model.specs.Run.{readRun};
 ghost use Rattle.model.specs.Constraint.{summary};
 ghost use Rattle.model.specs.Verdict.{outOfRange, aheadOf, judgeReading, verdict};
 ghost use Rattle.wire.specs.Reading.{toldOf};
@@ -16,6 +17,7 @@ use model::Own;
 use model::Quantity;
 use model::Summary;
 use model::Verdict;
+use wire::Entry;
 use wire::Reading;
 use wire::Step;
 use wire::Told;
@@ -48,24 +50,33 @@ fn is_out_of_range(neighbour: Neighbour) -> bool
     1023 < neighbour.colour
 }
 
-// The first object of a well-formed container with bar 18 or 19.
-fn first_barring(neighbour: Neighbour, summary: Summary, container: &[u8]) -> Barring
-    requires { ⌜ WellFormed (now container) ⌝ }
-    ensures { λ r. ⌜ ((os : List Object) → reading (now (container .entry)) ≡ wellFormed os → BarsFirst neighbour summary os r) ⌝ }
+// The first object of a well-formed run with bar 18 or 19.
+fn first_barring(neighbour: Neighbour, summary: Summary, run: &[u8]) -> Barring
+    requires { ⌜ WellFormed (now run) ⌝ }
+    ensures { λ r. ⌜ ((os : List Object) → readRun (now (run .entry)) ≡ wellFormed os → BarsFirst neighbour summary os r) ⌝ }
 {
-    let mut cursor = wire::first();
+    let start = wire::start_of(run);
+    let mut cursor = start.cursor;
+    let mut end = start.end;
     let mut place: u16 = 0;
     'objects: loop {
+        let container = &run[..end];
         match wire::next(container, cursor) {
             Step::Found {
                 header,
                 start,
-                end,
+                end: stop,
                 next,
             } => {
                 let mut bar: u8 = 18;
                 while bar < 20 {
-                    if constraints::holds(bar, neighbour, summary, header, &container[start..end]) {
+                    if constraints::holds(
+                        bar,
+                        neighbour,
+                        summary,
+                        header,
+                        &container[start..stop],
+                    ) {
                         break 'objects Barring { number: bar, place };
                     }
                     bar += 1;
@@ -76,14 +87,23 @@ fn first_barring(neighbour: Neighbour, summary: Summary, container: &[u8]) -> Ba
             Step::CutShort => {
                 break 'objects Barring { number: 0, place };
             }
-            Step::End => {
-                break 'objects Barring { number: 0, place };
-            }
+            Step::End => match wire::enter(run, end) {
+                Entry::Into { first, end: behind } => {
+                    cursor = first;
+                    end = behind;
+                }
+                Entry::Short => {
+                    break 'objects Barring { number: 0, place };
+                }
+                Entry::Nothing => {
+                    break 'objects Barring { number: 0, place };
+                }
+            },
         }
     }
 }
 
-// What a container tells the tests of its own constraints, by what was read of it.
+// What a run tells the tests of its own constraints, by what was read of it.
 fn summary_of(told: Told) -> Summary
     ensures { λ r. ⌜ toldOf r ≡ told ⌝ }
 {
@@ -101,17 +121,11 @@ fn summary_of(told: Told) -> Summary
     }
 }
 
-// The first object of a well-formed container with bar 18 or 19, by what was read of it: without mandatory constraints
+// The first object of a well-formed run with bar 18 or 19, by what was read of it: without mandatory constraints
 // there is none.
-fn barring_of(
-    neighbour: Neighbour,
-    count: u16,
-    mandatory: bool,
-    told: Told,
-    container: &[u8],
-) -> Barring
-    requires { ⌜ WellFormed (now container) ⌝ }
-    ensures { λ r. ⌜ ((os : List Object) → reading (now (container .entry)) ≡ wellFormed os → ReadAs count mandatory told os → BarsFirst neighbour (summary os) os r) ⌝ }
+fn barring_of(neighbour: Neighbour, count: u16, mandatory: bool, told: Told, run: &[u8]) -> Barring
+    requires { ⌜ WellFormed (now run) ⌝ }
+    ensures { λ r. ⌜ ((os : List Object) → readRun (now (run .entry)) ≡ wellFormed os → ReadAs count mandatory told os → BarsFirst neighbour (summary os) os r) ⌝ }
 {
     if !mandatory {
         return Barring {
@@ -119,22 +133,22 @@ fn barring_of(
             place: count,
         };
     }
-    first_barring(neighbour, summary_of(told), container)
+    first_barring(neighbour, summary_of(told), run)
 }
 
-// The verdict on a candidate past bars 11 and 12, by its container, with what is compared before the rank.
-fn judge_container(own: Own, neighbour: Neighbour, ahead: u8, container: &[u8]) -> Verdict
+// The verdict on a candidate past bars 11 and 12, by its run, with what is compared before the rank.
+fn judge_run(own: Own, neighbour: Neighbour, ahead: u8, run: &[u8]) -> Verdict
     requires { ⌜ ahead ≡ aheadOf own neighbour ⌝ }
-    ensures { λ r. ⌜ r ≡ judgeReading own neighbour (reading (now (container .entry))) ⌝ }
+    ensures { λ r. ⌜ r ≡ judgeReading own neighbour (readRun (now (run .entry))) ⌝ }
 {
-    match wire::read(container) {
+    match wire::read_run(run) {
         Reading::Refused { number, place } => Verdict::Barred { number, place },
         Reading::WellFormed {
             count,
             mandatory,
             told,
         } => {
-            let barring = barring_of(neighbour, count, mandatory, told, container);
+            let barring = barring_of(neighbour, count, mandatory, told, run);
             if barring.number != 0 {
                 return Verdict::Barred {
                     number: barring.number,
@@ -146,7 +160,7 @@ fn judge_container(own: Own, neighbour: Neighbour, ahead: u8, container: &[u8]) 
     }
 }
 
-// The verdict on a candidate, by its container in the lent run.
+// The verdict on a candidate, by its run in the lent bytes.
 pub fn judge(own: Own, candidate: Candidate, lent: &[u8]) -> Verdict
     ensures { λ r. ⌜ r ≡ verdict own (now (lent .entry)) candidate ⌝ }
 {
@@ -178,5 +192,5 @@ pub fn judge(own: Own, candidate: Candidate, lent: &[u8]) -> Verdict
             place: 65535,
         };
     }
-    judge_container(own, neighbour, ahead, &lent[start..start + size])
+    judge_run(own, neighbour, ahead, &lent[start..start + size])
 }

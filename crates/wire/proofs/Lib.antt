@@ -15,4 +15,5 @@ pub mod MandatoryLaws
 pub mod GatherLaws
 pub mod ToldLaws
 pub mod ReadLaws
+pub mod FrameLaws
 pub mod PutLaws

@@ -2,6 +2,7 @@ pub mod Number
 pub mod Step
 pub mod Entry
 pub mod Start
+pub mod Frame
 pub mod Walk
 pub mod Row
 pub mod Reading

@@ -1,7 +1,7 @@
 // What the reading pass gathers of a container's objects, one behind another. Each role has its own way through the bars, so that an
 // object meets no test of another one.
 ghost use mathlib.Core.Path.{_≡_};
-ghost use Prim.Native.Nat.{_<_};
+ghost use Prim.Native.Nat.{_^_, _<_};
 ghost use mathlib.Core.Bool.{true};
 ghost use mathlib.Core.List.{List, [], _∷_, _++_};
 ghost use lib.Dec.{eqb};
@@ -24,7 +24,7 @@ use crate::table;
 // flags seen, by bits. Numbers alone stay in registers.
 pub struct Gathered {
     pub number: u8,
-    pub place: u16,
+    pub place: usize,
     pub seen: u32,
     pub hops: u16,
     pub latency: u32,
@@ -32,9 +32,24 @@ pub struct Gathered {
     pub flags: u32,
 }
 
+// Of no object.
+pub(crate) fn nothing() -> Gathered
+    ensures { λ r. ⌜ r ≡ record { number = 0; place = 0; seen = 0; hops = 0; latency = 0; etx = 0; flags = 0 } ⌝ }
+{
+    Gathered {
+        number: 0,
+        place: 0,
+        seen: 0,
+        hops: 0,
+        latency: 0,
+        etx: 0,
+        flags: 0,
+    }
+}
+
 // One object more, with a bar or without. An unknown type leaves the uses seen as they are.
 fn count(g: Gathered, header: Header, flags: u32, number: u8) -> Gathered
-    requires { ⌜ g .place < 65535 ⌝ }
+    requires { ⌜ g .place < 2 ^ 62 ⌝ }
     ensures { λ r. ⌜ r ≡ counted g number (withUse (g .seen) (objectOf header [])) flags ⌝ }
 {
     if number != 0 {
@@ -68,7 +83,7 @@ fn is_added(header: Header) -> bool
 
 // One aggregated metric more without a bar, and what it tells.
 fn tell(g: Gathered, header: Header, flags: u32, body: &[u8]) -> Gathered
-    requires { ⌜ g .place < 65535 ⌝ }
+    requires { ⌜ g .place < 2 ^ 62 ⌝ }
     requires { ⌜ roleOf (header .flags) (header .mode) ≡ aggregated ⌝ }
     requires { ⌜ fixedShape (row (kindOf (header .mctype))) (now body) ≡ true ⌝ }
     ensures { λ r. ⌜ r ≡ toldBy (counted g 0 (withUse (g .seen) (objectOf header [])) flags) (objectOf header (now (body .entry))) ⌝ }
@@ -97,7 +112,7 @@ fn tell(g: Gathered, header: Header, flags: u32, body: &[u8]) -> Gathered
 
 // One object more, behind others that have no bar. Of an object of unknown type only the flags are kept.
 pub(crate) fn gather(g: Gathered, header: Header, body: &[u8]) -> Gathered
-    requires { ⌜ g .place < 65535 ⌝ }
+    requires { ⌜ g .place < 2 ^ 62 ⌝ }
     requires { ⌜ g .number ≡ 0 ⌝ }
     ensures { λ r. ⌜ ((es : List Object) → Gathers g es → Gathers r (es ++ (objectOf header (now (body .entry)) ∷ []))) ⌝ }
 {

@@ -1,4 +1,5 @@
-// From bytes to objects: the step over a container's objects, the table of the types, and bars 13 to 17.
+// From bytes to objects: the step over a container's objects and from one container of a run to the next, the table of the types, and the
+// bars of a container or a run by itself: 13 to 17, 22 and 23.
 mod bars;
 mod bodies;
 mod container;
@@ -13,6 +14,7 @@ mod table;
 pub use container::Reading;
 pub use container::Told;
 pub use container::read;
+pub use container::read_run;
 pub use numbers::number_2;
 pub use numbers::number_4;
 pub use objects::Cursor;

@@ -5,6 +5,7 @@ ghost use lib.ListN.{length, drop};
 ghost use Rattle.model.specs.Reading.{misframed};
 ghost use Rattle.wire.specs.Entry.{optionSize, entryAt};
 ghost use Rattle.wire.specs.Start.{startOf};
+ghost use Rattle.wire.specs.Frame.{frameBar};
 use crate::objects;
 use crate::objects::Cursor;
 
@@ -92,4 +93,38 @@ pub fn enter(run: &[u8], from: usize) -> Entry
         at = end;
     }
     Entry::Nothing
+}
+
+// Bar 22 or 23 of a run, 0 for none: its options, one after another. A container has two bytes or more, so that their number fits.
+fn frame(run: &[u8]) -> u8
+    ensures { λ r. ⌜ r ≡ frameBar (now (run .entry)) ⌝ }
+{
+    let n = run.len();
+    let mut at: usize = 0;
+    let mut count: usize = 0;
+    while at < n {
+        let end = behind_option(run, at);
+        if end == at {
+            return 22;
+        }
+        if run[at] == 2 {
+            count += 1;
+        }
+        at = end;
+    }
+    if 8 < count {
+        return 23;
+    }
+    0
+}
+
+// The same by the end of the container that a walk over the run starts in: one whole container has neither.
+pub(crate) fn frame_bar(run: &[u8], end: usize) -> u8
+    requires { ⌜ end ≡ startOf (now run) .end ⌝ }
+    ensures { λ r. ⌜ r ≡ frameBar (now (run .entry)) ⌝ }
+{
+    if end != 0 {
+        return 0;
+    }
+    frame(run)
 }

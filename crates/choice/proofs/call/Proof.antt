@@ -164,9 +164,8 @@ returns-3 c =
     let match = c .before .before .before .before .before .before .before .before .before in
     let at-end = match .before .before in
     let args = at-end .before .before .before .before .before .before .args in
-    let byte = at-end .before .before .before .before .before .shared-slice-known .given (getD (args .t2) (match .best .given .0 .0) blank .start + 1) in
     as-returned (parent-returns (args .own) (args .t2) (args .count) (args .lent .now) (args .out .now) (at-end .before .before .before .refusal-of .ensures) (at-end .before .before .if1 .left) (at-end .before .loop .inv .array)
-    (pass-end (at-end .before .loop .inv) (at-end .loop-test .left)) blank _ _ (omega arith) (match .best .given .1) (c .before .before .before .send .ensures) (c .answered .ensures))
+    (pass-end (at-end .before .loop .inv) (at-end .loop-test .left)) blank _ _ (match .best .given .1) (c .before .before .before .send .ensures) (c .answered .ensures))
 
 pub call-spec : {M : Type 1} → statement M
 call-spec =

@@ -17,10 +17,10 @@ use Rattle.meaning.proofs.start_of.Tie as tie
 -- the rows of the code's table
 abbrev starts : List (List ℕ)
 starts =
-    (0 ∷ 80 ∷ 138 ∷ 161 ∷ 228 ∷ 264 ∷ 289 ∷ 339 ∷ 339 ∷ 339 ∷ []) ∷
-    (339 ∷ 347 ∷ 445 ∷ 487 ∷ 569 ∷ 630 ∷ 712 ∷ 787 ∷ 853 ∷ 891 ∷ []) ∷
-    (924 ∷ 992 ∷ 1070 ∷ 1070 ∷ 1070 ∷ 1070 ∷ 1070 ∷ 1070 ∷ 1070 ∷ 1070 ∷ []) ∷
-    (1070 ∷ 1070 ∷ 1106 ∷ 1166 ∷ 1252 ∷ 1280 ∷ 1343 ∷ 1416 ∷ 1416 ∷ 1416 ∷ []) ∷
+    (0 ∷ 80 ∷ 138 ∷ 161 ∷ 228 ∷ 265 ∷ 290 ∷ 340 ∷ 340 ∷ 340 ∷ []) ∷
+    (340 ∷ 348 ∷ 446 ∷ 493 ∷ 575 ∷ 636 ∷ 718 ∷ 793 ∷ 859 ∷ 897 ∷ []) ∷
+    (930 ∷ 998 ∷ 1076 ∷ 1120 ∷ 1137 ∷ 1137 ∷ 1137 ∷ 1137 ∷ 1137 ∷ 1137 ∷ []) ∷
+    (1137 ∷ 1137 ∷ 1173 ∷ 1233 ∷ 1319 ∷ 1347 ∷ 1436 ∷ 1509 ∷ 1509 ∷ 1509 ∷ []) ∷
     []
 
 abbrev startOf : ℕ → ℕ
@@ -34,11 +34,11 @@ unfolding wordsBefore meaning codesFrom wordsIn table right
 starts-right n h = eqb-true (startOf n) (length (wordsBefore n)) (at-each right 38 n refl (omega arith))
 
 few : ℕ → Bool
-few n = leb (startOf n) 1416
+few n = leb (startOf n) 1509
 
-starts-few : (n : ℕ) → n ≤ 37 → startOf n ≤ 1416
+starts-few : (n : ℕ) → n ≤ 37 → startOf n ≤ 1509
 unfolding few
-starts-few n h = leb-true (startOf n) 1416 (at-each few 38 n refl (omega arith))
+starts-few n h = leb-true (startOf n) 1509 (at-each few 38 n refl (omega arith))
 
 mul-result : tie.Need-mul-result
 mul-result c = search needs

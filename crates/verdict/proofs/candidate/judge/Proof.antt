@@ -50,25 +50,25 @@ returns-4 c =
     let args = c .before .before .before .before .before .before .before .before .args in
     judged-12 (args .own) (args .lent .now) (args .candidate) (in-range (c .before .before) .0) (omega arith)
 
-add-judge-container : tie.Need-add-judge-container
-add-judge-container c = search needs
+add-judge-run : tie.Need-add-judge-run
+add-judge-run c = search needs
 
-sub-judge-container : tie.Need-sub-judge-container
-sub-judge-container c = search needs
+sub-judge-run : tie.Need-sub-judge-run
+sub-judge-run c = search needs
 
-part-judge-container-start : tie.Need-part-judge-container-start
-part-judge-container-start c = search needs
+part-judge-run-start : tie.Need-part-judge-run-start
+part-judge-run-start c = search needs
 
-part-judge-container-end : tie.Need-part-judge-container-end
-part-judge-container-end c = search needs
+part-judge-run-end : tie.Need-part-judge-run-end
+part-judge-run-end c = search needs
 
-judge-container-requires : tie.Need-judge-container-requires
-judge-container-requires c κs = in-range (c .before .before .before) .1
+judge-run-requires : tie.Need-judge-run-requires
+judge-run-requires c κs = in-range (c .before .before .before) .1
 
 returns-5 : tie.Need-returns-5
 returns-5 c =
     let args = c .before .before .before .before .before .before .before .before .before .before .args in
-    c .judge-container .ensures
+    c .judge-run .ensures
     ∙ judged-inside (args .own) (args .lent .now) (args .candidate) (in-range (c .before .before .before .before) .0) (omega arith)
 
 pub judge-spec : {M : Type 1} → statement M
@@ -82,9 +82,9 @@ judge-spec =
     returns-3
     sub-if4
     returns-4
-    add-judge-container
-    sub-judge-container
-    part-judge-container-start
-    part-judge-container-end
-    judge-container-requires
+    add-judge-run
+    sub-judge-run
+    part-judge-run-start
+    part-judge-run-end
+    judge-run-requires
     returns-5)

@@ -1,0 +1,5 @@
+pub mod StepLaws
+pub mod FedLaws
+pub mod MirrorLaws
+pub mod Parts
+pub mod Rows

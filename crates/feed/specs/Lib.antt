@@ -1,0 +1,4 @@
+pub mod Feeding
+pub mod Step
+pub mod Parts
+pub mod Rows
