@@ -18,6 +18,15 @@ use Rattle.wire.specs.Step.{stepAt, objectIn}
 use Rattle.wire.specs.Walk.{Inside, objectsFrom}
 use Rattle.wire.proofs.StepLaws.{found, bytes-at, split-found, split-short, split-end}
 
+-- objects before none, and before others
+pub behind-nil : (r : Option (List Object)) → r ≡ behind [] r
+behind-nil none = refl
+behind-nil (some os) = refl
+
+pub behind-behind : (es os : List Object) (r : Option (List Object)) → behind es (behind os r) ≡ behind (es ++ os) r
+behind-behind es os none = refl
+behind-behind es os (some ps) = ap some (sym (append-assoc es os ps))
+
 -- ---- a pass over bytes, from a cursor on
 
 -- the objects from a cursor on are those up to another, and those from there on
@@ -25,11 +34,7 @@ abbrev pub Within : List ℕ → (from k : Cursor) → (earlier : List Object) �
 Within bs from k es = split (drop (from .at) bs) ≡ behind es (split (drop (k .at) bs))
 
 pub within-first : (bs : List ℕ) (k : Cursor) → Within bs k k []
-within-first bs k = go (split (drop (k .at) bs))
-  where
-    go : (r : Option (List Object)) → r ≡ behind [] r
-    go none = refl
-    go (some os) = refl
+within-first bs k = behind-nil (split (drop (k .at) bs))
 
 module _ (bs : List ℕ) (from k : Cursor) (es : List Object) (w : Within bs from k es) where
   module _ {h : Header} {start end : ℕ} {n : Cursor} (e : stepAt bs k ≡ Found h start end n) where
