@@ -6,10 +6,9 @@ use mathlib.Core.Bool.{Bool, true, false, not, cond}
 use mathlib.Core.List.{List, [], _∷_, _++_}
 use mathlib.Core.Option.{Option, none, some}
 use lib.ListN.{length, take, getD, length-append}
-use Rattle.model.specs.Object.{Object, before}
+use Rattle.model.specs.Object.{Object, before, behind}
 use Rattle.model.specs.Reading.{isNone, misframed, dataObjects, readObjects, reading}
 use Rattle.model.specs.Run.{runObjects, optionCut, ninthContainer, readRun}
-use Rattle.model.proofs.ObjectLaws.{behind}
 use Rattle.model.proofs.ReadingLaws.{framed}
 use Rattle.model.proofs.RunLaws.{framed-run, framed-clear, few-objects}
 use Rattle.wire.specs.declared.objects.Header.{Header}
@@ -18,26 +17,22 @@ use Rattle.wire.specs.declared.objects.Step.the-variants.{Found, CutShor
 use Rattle.wire.specs.declared.options.Entry.the-variants.{Into, Short, Nothing}
 use Rattle.wire.specs.declared.options.Start.{Start}
 use Rattle.wire.specs.declared.gathered.Gathered.{Gathered}
+use Rattle.wire.specs.declared.container.Gone.{Gone}
+use Rattle.wire.specs.declared.container.Gone.the-variants.{Ended, Stopped}
 use Rattle.wire.specs.declared.container.Reading.{Reading}
 use Rattle.wire.specs.declared.container.Reading.the-variants.{Refused}
 use Rattle.wire.specs.Step.{firstCursor, stepAt, objectIn}
 use Rattle.wire.specs.Entry.{entryAt}
 use Rattle.wire.specs.Start.{startOf}
 use Rattle.wire.specs.Walk.{objectsFrom}
-use Rattle.wire.specs.Gathered.{Gathers, wholeReading, wholeFrom, barredBy}
+use Rattle.wire.specs.Gathered.{Gathers, wholeReading, wholeFrom, barredBy, Pass, Passed, Stops, Comes}
 use Rattle.wire.specs.Reading.{readingOf}
-use Rattle.wire.proofs.RunWalkLaws.{from-found, from-short, from-enter, from-cut, from-nothing, RunWalked, run-first, run-found, run-enter, run-short, run-cut, run-end}
+use Rattle.wire.proofs.RunWalkLaws.{from-found, from-short, from-enter, from-cut, from-nothing, run-first, run-found, run-enter, run-short, run-cut, run-end}
 use Rattle.wire.proofs.GatherLaws.{gathers-none, gathers-le, gathers-behind, gathers-refused}
 
--- the objects before a cursor, none of which has a bar, and what is gathered of them
-pub record Pass (run : List ℕ) (end : ℕ) (p : Cursor) (g : Gathered) : Type 0 where
-  pub earlier : List Object
-  pub walked : RunWalked run end p earlier
-  pub gathers : Gathers g earlier
-  pub clear : g .number ≡ 0
-
-pub pass-first : (run : List ℕ) (s : Start) → s ≡ startOf run → Pass run (s .end) (s .cursor) (record { number = 0; place = 0; seen = 0; hops = 0; latency = 0; etx = 0; flags = 0 })
-pass-first run s e = record { earlier = []; walked = run-first run s e; gathers = gathers-none; clear = refl }
+pub pass-first : (run : List ℕ) (s : Start) → s ≡ startOf run → {g : Gathered} → g ≡ record { number = 0; place = 0; seen = 0; hops = 0; latency = 0; etx = 0; flags = 0 }
+    → Pass run (s .end) (s .cursor) g
+pass-first run s e z = rw z (record { earlier = []; walked = run-first run s e; gathers = gathers-none; clear = refl })
 
 module _ (run : List ℕ) (end : ℕ) (p : Cursor) (g : Gathered) (w : Pass run end p g) where
   -- the index of an object fits
@@ -119,13 +114,53 @@ module _ (run : List ℕ) (end : ℕ) (p : Cursor) where
 pub not-whole : {b : Bool} → false ≡ b → b ≡ true → ⊥
 not-whole p q = let z : _≡_ {A = ℕ} 0 1 = cc in omega arith
 
--- bar 14, and an option that is cut short, which bar 22 comes before
-module _ (run : List ℕ) (end : ℕ) (p : Cursor) (g : Gathered) (n k : ℕ) (w : Pass run end p g) where
-  pub read-14 : stepAt (take end run) p ≡ CutShort → barredBy (wholeFrom run end p) n k ≡ readingOf (readObjects (runObjects run))
-  read-14 e = rw (← whole-short run end p e, run-short run end p (w .earlier) (w .walked) e)
+-- bar 14
+pub read-14 : (run : List ℕ) (end : ℕ) (p : Cursor) (g : Gathered) (n k : ℕ) → Pass run end p g → stepAt (take end run) p ≡ CutShort
+    → barredBy (wholeFrom run end p) n k ≡ readingOf (readObjects (runObjects run))
+read-14 run end p g n k w e = rw (← whole-short run end p e, run-short run end p (w .earlier) (w .walked) e)
 
-  pub read-cut : stepAt (take end run) p ≡ End → entryAt run end ≡ Short → barredBy (wholeFrom run end p) n k ≡ readingOf (readObjects (runObjects run))
-  read-cut d q = rw (← whole-cut run end p d q, run-cut run end p (w .earlier) (w .walked) d q)
+-- ---- one container
+
+-- its objects end, or one stops the pass
+pub comes-barred : (run : List ℕ) (end : ℕ) (p : Cursor) (g r : Gathered) {h : Header} {start stop : ℕ} {n : Cursor} → Pass run end p g
+    → ((i : ℕ) → getD run i 0 ≤ 255) → ninthContainer run ≡ false → stepAt (take end run) p ≡ Found h start stop n
+    → ((es : List Object) → Gathers g es → Gathers r (es ++ (objectIn (take end run) h start stop ∷ []))) → (r .number ≡ 0 → ⊥)
+    → Stops run end n (r .number) (r .place)
+comes-barred run end p g r w bytes few e f z = record {
+  inside = run-found run end p (w .earlier) (w .walked) e .inside;
+  fits = barred-place run end p g w r e f bytes few;
+  reads = pass-barred run end p g w r e f z;
+}
+
+pub comes-cut : (run : List ℕ) (end : ℕ) (p : Cursor) (g : Gathered) → Pass run end p g → stepAt (take end run) p ≡ CutShort → Stops run end p (g .number) (g .place)
+comes-cut run end p g w e = record {
+  inside = w .walked .inside;
+  fits = λ q. absurd (not-whole (whole-short run end p e) q);
+  reads = read-14 run end p g (g .number) (g .place) w e;
+}
+
+pub stops-by : (run : List ℕ) (end : ℕ) {r : Gone} {p : Cursor} {n k : ℕ} → r ≡ Stopped p n k → Stops run end p n k → Comes run end r
+stops-by run end e w = rw e w
+
+pub comes-ended : (run : List ℕ) (end : ℕ) {r : Gone} {g : Gathered} → Comes run end r → r ≡ Ended g → Passed run end g
+comes-ended run end w e = rw e at w
+
+pub comes-stopped : (run : List ℕ) (end : ℕ) {r : Gone} {p : Cursor} {n k : ℕ} → Comes run end r → r ≡ Stopped p n k → Stops run end p n k
+comes-stopped run end w e = rw e at w
+
+-- behind it
+module _ (run : List ℕ) (end : ℕ) (g : Gathered) (w : Passed run end g) where
+  pub passed-enter : {c : Cursor} {e : ℕ} → entryAt run end ≡ Into c e → Pass run e c g
+  passed-enter q = pass-enter run end (w .cursor) g (w .pass) (w .ended) q
+
+  pub passed-cut : entryAt run end ≡ Short → Refused 14 65535 ≡ readingOf (readObjects (runObjects run))
+  passed-cut q = rw (run-cut run end (w .cursor) (w .pass .earlier) (w .pass .walked) (w .ended) q)
+
+  pub passed-end : (r : Reading) → entryAt run end ≡ Nothing → ((os : List Object) → Gathers g os → r ≡ readingOf (wholeReading os)) → r ≡ readingOf (readObjects (runObjects run))
+  passed-end r q f = read-whole run end (w .cursor) g (w .pass) r (w .ended) q f
+
+  pub passed-place : ((i : ℕ) → getD run i 0 ≤ 255) → ninthContainer run ≡ false → entryAt run end ≡ Nothing → g .place < 65536
+  passed-place bytes few q = whole-place run end (w .cursor) g (w .pass) bytes few (w .ended) q
 
 -- ---- the frame
 

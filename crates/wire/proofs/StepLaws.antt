@@ -9,8 +9,8 @@ use lib.ListN.{length, drop, getD, length-drop, take-append-drop, drop-of-length
 use lib.Seq.{drop-cons, drop-drop, length-take-le}
 use lib.Dec.{leb, ltb}
 use borrow.Author.Tests.{lt-leb, leb-true, leb-false, ltb-true, ltb-false}
-use Rattle.model.specs.Object.{Object, before, splitUpTo, split, join, bytesOf}
-use Rattle.model.proofs.ObjectLaws.{split-step, behind, split-append}
+use Rattle.model.specs.Object.{Object, before, splitUpTo, split, join, bytesOf, behind}
+use Rattle.model.proofs.ObjectLaws.{split-step, split-append}
 use Rattle.wire.specs.declared.objects.Header.{Header}
 use Rattle.wire.specs.declared.objects.Cursor.{Cursor}
 use Rattle.wire.specs.declared.objects.Step.{Step}

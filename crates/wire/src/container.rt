@@ -8,7 +8,8 @@ ghost use Rattle.model.specs.Reading.{readObjects, reading};
 ghost use Rattle.model.specs.Run.{ninthContainer, runObjects, readRun};
 ghost use Rattle.wire.specs.Start.{startOf};
 ghost use Rattle.wire.specs.Walk.{Inside};
-ghost use Rattle.wire.specs.Gathered.{Gathers, wholeReading, wholeFrom, barredBy};
+ghost use Rattle.wire.specs.Gathered.{Gathers, wholeReading, wholeFrom, barredBy, Pass, Comes};
+ghost use Rattle.wire.specs.declared.container.Gone.the-variants.{Stopped};
 ghost use Rattle.wire.specs.Reading.{readingOf};
 use crate::gathered;
 use crate::gathered::Gathered;
@@ -40,6 +41,27 @@ pub enum Reading {
         mandatory: bool,
         told: Told,
     },
+}
+
+// What the objects of one container come to: all of them are gathered, and none has a bar; or one has a bar or is cut short, before a cursor.
+pub enum Gone {
+    Ended(Gathered),
+    Stopped {
+        cursor: Cursor,
+        number: u8,
+        place: usize,
+    },
+}
+
+// The pass is over before a cursor.
+fn stopped(cursor: Cursor, number: u8, place: usize) -> Gone
+    ensures { λ r. ⌜ r ≡ Stopped cursor number place ⌝ }
+{
+    Gone::Stopped {
+        cursor,
+        number,
+        place,
+    }
 }
 
 // What is gathered of all objects, where none has a bar and their number fits.
@@ -113,26 +135,18 @@ fn barred(run: &[u8], end: usize, from: Cursor, number: u8, place: usize) -> Rea
     }
 }
 
-// Bars 14 to 17, in one pass over the objects of a run without a ninth container, from its start on. An object that is cut short is bar 14
-// by the test of what follows a bar: a constant here would cost every object an instruction.
-fn read_objects(run: &[u8], start: Start) -> Reading
-    requires { ⌜ start ≡ startOf (now run) ⌝ }
+// The objects of one container, from a cursor on, behind those that are gathered: the inner loop of the pass, so that an object costs
+// nothing of the options. An object that is cut short is bar 14 by the test of what follows a bar: a constant here would cost every object
+// an instruction.
+fn gather_container(run: &[u8], end: usize, from: Cursor, before: Gathered) -> Gone
+    requires { ⌜ Pass (now run) end from before ⌝ }
     requires { ⌜ ninthContainer (now run) ≡ false ⌝ }
-    ensures { λ r. ⌜ r ≡ readingOf (readObjects (runObjects (now (run .entry)))) ⌝ }
+    ensures { λ r. ⌜ Comes (now (run .entry)) end r ⌝ }
 {
-    let mut cursor = start.cursor;
-    let mut end = start.end;
-    let mut g = Gathered {
-        number: 0,
-        place: 0,
-        seen: 0,
-        hops: 0,
-        latency: 0,
-        etx: 0,
-        flags: 0,
-    };
+    let container = &run[..end];
+    let mut cursor = from;
+    let mut g = before;
     loop {
-        let container = &run[..end];
         match objects::next(container, cursor) {
             Step::Found {
                 header,
@@ -141,24 +155,53 @@ fn read_objects(run: &[u8], start: Start) -> Reading
                 next,
             } => {
                 g = gathered::gather(g, header, &container[start..stop]);
-                if g.number != 0 {
-                    return barred(run, end, next, g.number, g.place);
-                }
                 cursor = next;
+                if g.number != 0 {
+                    return stopped(cursor, g.number, g.place);
+                }
             }
             Step::CutShort => {
-                return barred(run, end, cursor, g.number, g.place);
+                return stopped(cursor, g.number, g.place);
             }
-            Step::End => match options::enter(run, end) {
+            Step::End => {
+                return Gone::Ended(g);
+            }
+        }
+    }
+}
+
+// Bars 14 to 17, container by container, of a run without a ninth one, from its start on.
+fn read_objects(run: &[u8], start: Start) -> Reading
+    requires { ⌜ start ≡ startOf (now run) ⌝ }
+    requires { ⌜ ninthContainer (now run) ≡ false ⌝ }
+    ensures { λ r. ⌜ r ≡ readingOf (readObjects (runObjects (now (run .entry)))) ⌝ }
+{
+    let mut cursor = start.cursor;
+    let mut end = start.end;
+    let mut g = gathered::nothing();
+    loop {
+        match gather_container(run, end, cursor, g) {
+            Gone::Stopped {
+                cursor: at,
+                number,
+                place,
+            } => {
+                return barred(run, end, at, number, place);
+            }
+            Gone::Ended(all) => match options::enter(run, end) {
                 Entry::Into { first, end: behind } => {
+                    g = all;
                     cursor = first;
                     end = behind;
                 }
                 Entry::Short => {
-                    return barred(run, end, cursor, g.number, g.place);
+                    return Reading::Refused {
+                        number: 14,
+                        place: 65535,
+                    };
                 }
                 Entry::Nothing => {
-                    return conclude(g);
+                    return conclude(all);
                 }
             },
         }

@@ -32,6 +32,21 @@ pub struct Gathered {
     pub flags: u32,
 }
 
+// Of no object.
+pub(crate) fn nothing() -> Gathered
+    ensures { λ r. ⌜ r ≡ record { number = 0; place = 0; seen = 0; hops = 0; latency = 0; etx = 0; flags = 0 } ⌝ }
+{
+    Gathered {
+        number: 0,
+        place: 0,
+        seen: 0,
+        hops: 0,
+        latency: 0,
+        etx: 0,
+        flags: 0,
+    }
+}
+
 // One object more, with a bar or without. An unknown type leaves the uses seen as they are.
 fn count(g: Gathered, header: Header, flags: u32, number: u8) -> Gathered
     requires { ⌜ g .place < 2 ^ 62 ⌝ }
