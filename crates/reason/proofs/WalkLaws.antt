@@ -24,9 +24,10 @@ use Rattle.wire.specs.declared.options.Start.{Start}
 use Rattle.wire.specs.Step.{stepAt, objectIn}
 use Rattle.wire.specs.Entry.{entryAt}
 use Rattle.wire.specs.Start.{startOf}
+use Rattle.wire.specs.Walk.{RunWalked}
 use Rattle.wire.specs.declared.container.Reading.the-variants.{Refused, WellFormed}
 use Rattle.wire.specs.Reading.{hopsOf, toldOf, readingOf}
-use Rattle.wire.proofs.RunWalkLaws.{RunWalked, run-first, run-found, run-rest, run-short, run-enter, run-cut, run-end}
+use Rattle.wire.proofs.RunWalkLaws.{run-first, run-found, run-rest, run-short, run-enter, run-cut, run-end}
 use Rattle.reason.specs.declared.findings.Finding.{Finding}
 use Rattle.reason.specs.Finding.{nothing, hopsFinding, hopsTold, askedWith, objectFinding, unmetFinding}
 
