@@ -17,7 +17,7 @@ use model::Rank;
 
 // A flag's bit where its word was given.
 fn flag(given: u64, k: usize, bit: u8) -> u8
-    requires { ⌜ k < 28 ⌝ }
+    requires { ⌜ k < 29 ⌝ }
 {
     if settings::has(given, k) {
         return bit;
@@ -114,11 +114,11 @@ fn candidates_of(rows: &Rows, count: usize) -> [Candidate; 16]
 fn run_in(s: State, rows: &Rows, lent: &[u8], sent: &mut [u8], out: &mut Buffer) -> State
     requires { ⌜ Sound s ⌝ }
     requires { ⌜ s .used ≤ length (now lent) ⌝ }
-    requires { ⌜ 1000 ≤ length (now sent) ⌝ }
+    requires { ⌜ 4096 ≤ length (now sent) ⌝ }
     ensures { λ r. ⌜ Sound r ⌝ }
 {
     let used = s.used;
-    let room = (rows[names::ROOM] % 1001) as usize;
+    let room = (rows[names::ROOM] % 4097) as usize;
     let list = candidates_of(rows, s.count);
     let answer = choice::call(
         own_of(rows),

@@ -14,7 +14,7 @@ use crate::state::Rows;
 use crate::state::State;
 
 // The bytes of a line at most, its end not among them.
-pub const LONGEST: usize = 4096;
+pub const LONGEST: usize = 8192;
 
 // Ends a call, and answers it where it has no error.
 fn end_call(s: State, rows: &mut Rows, lent: &Buffer, out: &mut Buffer) -> State

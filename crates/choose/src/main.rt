@@ -1,4 +1,4 @@
-// Answers the calls on its input: verdicts, parent, rank, and the container for the next hop. docs/FORMATS.md has the forms of
+// Answers the calls on its input: verdicts, parent, rank, and the containers for the next hop. docs/FORMATS.md has the forms of
 // input and output.
 ghost use Prim.Native.Nat.{_≤_};
 ghost use lib.ListN.{length};

@@ -1,7 +1,7 @@
 // The words of the input.
 ghost use Prim.Native.Nat.{_<_, _≤_};
 
-// A word is told by its place in the table of names. The first 22 have a number behind them; container and lent have bytes.
+// A word is told by its place in the table of names. The first 22 have a number behind them; container, lent and part have bytes.
 pub const MINHOP: usize = 0;
 
 pub const MAXINCREASE: usize = 1;
@@ -50,20 +50,22 @@ pub const CONTAINER: usize = 22;
 
 pub const LENT: usize = 23;
 
-pub const AGGREGATOR: usize = 24;
+pub const PART: usize = 24;
 
-pub const OVERLOADED: usize = 25;
+pub const AGGREGATOR: usize = 25;
 
-pub const GROUNDED: usize = 26;
+pub const OVERLOADED: usize = 26;
 
-pub const REASONS: usize = 27;
+pub const GROUNDED: usize = 27;
 
-pub const CANDIDATE: usize = 28;
+pub const REASONS: usize = 28;
 
-pub const CALL: usize = 29;
+pub const CANDIDATE: usize = 29;
+
+pub const CALL: usize = 30;
 
 // Any other word.
-pub const NONE: usize = 30;
+pub const NONE: usize = 31;
 
 // The bytes of a name in the table, so that a space stands behind the longest.
 pub const ROOM_OF_NAME: usize = 12;
@@ -94,6 +96,7 @@ const NAMES: [u8; NONE * ROOM_OF_NAME] = *b"\
     why         \
     container   \
     lent        \
+    part        \
     aggregator  \
     overloaded  \
     grounded    \
@@ -104,7 +107,7 @@ const NAMES: [u8; NONE * ROOM_OF_NAME] = *b"\
 
 // A byte of a name.
 pub(crate) fn letter(k: usize, i: usize) -> u8
-    requires { ⌜ k < 30 ⌝ }
+    requires { ⌜ k < 31 ⌝ }
     requires { ⌜ i < 12 ⌝ }
 {
     NAMES[k * ROOM_OF_NAME + i]
@@ -120,7 +123,7 @@ fn padded(word: &[u8], i: usize) -> u8 {
 
 // Whether a word is a name. No word has a space in it, so one of 12 bytes or more is none.
 pub(crate) fn is(word: &[u8], k: usize) -> bool
-    requires { ⌜ k < 30 ⌝ }
+    requires { ⌜ k < 31 ⌝ }
 {
     let mut i = 0;
     while i < ROOM_OF_NAME {
@@ -134,7 +137,7 @@ pub(crate) fn is(word: &[u8], k: usize) -> bool
 
 // Which name a word is.
 pub fn look_up(word: &[u8]) -> usize
-    ensures { λ r. ⌜ r ≤ 30 ⌝ }
+    ensures { λ r. ⌜ r ≤ 31 ⌝ }
 {
     let mut k = 0;
     while k < NONE {

@@ -18,6 +18,7 @@ pub enum Fault {
     OfCall,
     Twice,
     Together,
+    PartTogether,
     NoNumber,
     TooLarge(u64),
     BadHex,
@@ -145,12 +146,13 @@ fn phrase(out: &mut Buffer, held: usize, what: Fault) -> usize
         Fault::UnknownWord => text(out, held, b"unknown word"),
         Fault::BeforeCall => text(out, held, b"a word before the first call"),
         Fault::NoCall => text(out, held, b"no call"),
-        Fault::TooLong => text(out, held, b"line too long: 4096 bytes at most"),
+        Fault::TooLong => text(out, held, b"line too long: 8192 bytes at most"),
         Fault::TooMany => text(out, held, b"too many candidates: 16 at most"),
         Fault::OfCandidate => text(out, held, b"belongs to a candidate"),
         Fault::OfCall => text(out, held, b"belongs before the candidates"),
         Fault::Twice => text(out, held, b"is given twice"),
         Fault::Together => text(out, held, b"container together with start or size"),
+        Fault::PartTogether => text(out, held, b"part together with container, start or size"),
         Fault::NoNumber => text(out, held, b"has no number behind it"),
         Fault::TooLarge(limit) => {
             let at = text(out, held, b"is too large: ");

@@ -19,13 +19,15 @@ const CANDIDATE_NEEDS: u64 = (1 << names::RANK)
     | (1 << names::TYPE)
     | (1 << names::LQL);
 
-// The words that tell the place of a container.
+// The words that tell the place of a run, and those that have its bytes behind them.
 const BY_PLACE: u64 = (1 << names::START) | (1 << names::SIZE);
 
 const BY_BYTES: u64 = 1 << names::CONTAINER;
 
+const BY_PARTS: u64 = 1 << names::PART;
+
 // The room of an output where none is given.
-const USUAL_ROOM: u64 = 257;
+const USUAL_ROOM: u64 = 2056;
 
 // The words that are needed, by the place and the words that were given.
 fn needs(place: u8, given: u64) -> u64 {
@@ -34,6 +36,9 @@ fn needs(place: u8, given: u64) -> u64 {
     }
     if given & BY_PLACE != 0 {
         return CANDIDATE_NEEDS | BY_PLACE;
+    }
+    if given & BY_PARTS != 0 {
+        return CANDIDATE_NEEDS;
     }
     CANDIDATE_NEEDS | BY_BYTES
 }
@@ -90,6 +95,8 @@ pub(crate) fn begin_call(s: State, rows: &mut Rows) -> State
         given: 0,
         count: 0,
         used: 0,
+        from: 0,
+        fed: state::unfed(),
         held: s.held,
     }
 }
@@ -111,5 +118,7 @@ pub(crate) fn begin_candidate(s: State, rows: &mut Rows, out: &mut Buffer) -> St
     t.place = state::CANDIDATE;
     t.begun = t.line;
     t.given = 0;
+    t.from = t.used;
+    t.fed = state::unfed();
     t
 }

@@ -1,4 +1,4 @@
-// The sentences for bars 11 to 14: what was asked of a number or of a container, and what was found.
+// The sentences for bars 11, 12, 14, 22 and 23: what was asked of a number or of a run, and what was found.
 ghost use Prim.Native.Nat.{_≤_};
 use crate::say;
 use crate::say::Buffer;
@@ -40,7 +40,7 @@ fn object(out: &mut Buffer, held: usize, words: &[u8], f: Finding) -> usize
     say::between(out, a, b" bytes, ", f.found, b" are there")
 }
 
-// Bar 12, way 9: a container that is not inside the lent bytes.
+// Bar 12, way 9: a run that is not inside the lent bytes.
 fn outside(out: &mut Buffer, held: usize, f: Finding) -> usize
     requires { ⌜ held ≤ 65536 ⌝ }
     ensures { λ r. ⌜ r ≤ 65536 ⌝ }
@@ -49,49 +49,63 @@ fn outside(out: &mut Buffer, held: usize, f: Finding) -> usize
     say::between(out, a, b" bytes, ", f.found, b" are lent")
 }
 
-// Bar 13, way 12: a container with more or less data than it says.
-fn data(out: &mut Buffer, held: usize, f: Finding) -> usize
+// Bar 22, way 37: an option that has no length byte.
+fn lone(out: &mut Buffer, held: usize, f: Finding) -> usize
+    requires { ⌜ held ≤ 65536 ⌝ }
+    ensures { λ r. ⌜ r ≤ 65536 ⌝ }
+{
+    say::between(
+        out,
+        held,
+        b"the option at byte ",
+        f.which,
+        b" has no length",
+    )
+}
+
+// Bar 22, way 38: an option with less data than it says.
+fn cut(out: &mut Buffer, held: usize, f: Finding) -> usize
     requires { ⌜ held ≤ 65536 ⌝ }
     ensures { λ r. ⌜ r ≤ 65536 ⌝ }
 {
     let a = say::pairs(
         out,
         held,
-        b"it says ",
+        b"the option at byte ",
+        f.which,
+        b" says ",
         f.asked,
-        b" bytes of data, ",
-        f.found,
     );
-    say::text(out, a, b" are there")
+    say::between(out, a, b" bytes, ", f.found, b" are there")
 }
 
-// Bar 13, way 10: a container that is too short.
-fn short(out: &mut Buffer, held: usize, f: Finding) -> usize
+// Bar 23, way 39: too many containers.
+fn many(out: &mut Buffer, held: usize, f: Finding) -> usize
     requires { ⌜ held ≤ 65536 ⌝ }
     ensures { λ r. ⌜ r ≤ 65536 ⌝ }
 {
-    let a = say::pairs(out, held, b"its length is ", f.found, b", and ", f.asked);
-    say::text(out, a, b" is the least")
+    let a = say::pairs(
+        out,
+        held,
+        b"it has ",
+        f.found,
+        b" containers, and ",
+        f.asked,
+    );
+    say::text(out, a, b" are the most")
 }
 
-// Bars 12 to 14, ways 9 to 14: what is wrong with a container.
-pub(crate) fn container(out: &mut Buffer, held: usize, f: Finding) -> usize
+// Bars 12, 14, 22 and 23, ways 9, 13, 14 and 37 to 39: what is wrong with a run, or with a container of it.
+pub(crate) fn run(out: &mut Buffer, held: usize, f: Finding) -> usize
     requires { ⌜ held ≤ 65536 ⌝ }
     ensures { λ r. ⌜ r ≤ 65536 ⌝ }
 {
     let way = f.way;
     match way {
         reason::OUTSIDE => outside(out, held, f),
-        reason::SHORT => short(out, held, f),
-        reason::FIRST_BYTE => say::pairs(
-            out,
-            held,
-            b"it starts with ",
-            f.found,
-            b", and is to start with ",
-            f.asked,
-        ),
-        reason::DATA => data(out, held, f),
+        reason::OPTION => lone(out, held, f),
+        reason::OPTION_DATA => cut(out, held, f),
+        reason::CONTAINERS => many(out, held, f),
         reason::HEADER => object(out, held, b" has a header of ", f),
         _ => object(out, held, b" says ", f),
     }

@@ -9,6 +9,7 @@ use crate::say::Fault;
 use crate::state;
 use crate::state::Rows;
 use crate::state::State;
+use feed::Fed;
 use words::Decimal;
 use words::HexByte;
 
@@ -26,7 +27,7 @@ const LIMITS: [u64; names::CONTAINER] = [
     65535,
     255,
     state::MOST,
-    1000,
+    4096,
     65535,
     4294967295,
     4294967295,
@@ -70,6 +71,7 @@ const OF_CANDIDATE: u64 = (1 << names::RANK)
     | (1 << names::START)
     | (1 << names::SIZE)
     | (1 << names::CONTAINER)
+    | (1 << names::PART)
     | (1 << names::AGGREGATOR)
     | (1 << names::OVERLOADED)
     | (1 << names::GROUNDED);
@@ -87,6 +89,15 @@ enum HexRun {
     TooMany,
 }
 
+// The bytes of a part are fed, with the state then; or they are no such bytes.
+enum Parted {
+    Kept(Fed),
+    Bad,
+}
+
+// The last index from which on the lent run has room for what is kept of a run's parts.
+const LAST_START: usize = 65536 - feed::KEPT_ROOM;
+
 // Fails at a word that ends at an index: what stands behind it is skipped as words.
 pub(crate) fn stop(end: usize, s: State, out: &mut Buffer, what: Fault, k: usize) -> Next
     requires { ⌜ Sound s ⌝ }
@@ -101,7 +112,7 @@ pub(crate) fn stop(end: usize, s: State, out: &mut Buffer, what: Fault, k: usize
 
 // Whether a word is among some, by their bits.
 pub(crate) fn has(words: u64, k: usize) -> bool
-    requires { ⌜ k < 28 ⌝ }
+    requires { ⌜ k < 29 ⌝ }
 {
     (words >> k) % 2 == 1
 }
@@ -109,7 +120,7 @@ pub(crate) fn has(words: u64, k: usize) -> bool
 // With a word that is given now.
 fn with(s: State, k: usize) -> State
     requires { ⌜ Sound s ⌝ }
-    requires { ⌜ k < 28 ⌝ }
+    requires { ⌜ k < 29 ⌝ }
     ensures { λ r. ⌜ Sound r ⌝ }
 {
     let mut t = s;
@@ -117,17 +128,30 @@ fn with(s: State, k: usize) -> State
     t
 }
 
-// Whether a word tells the container's place in one way, and another was given in the other way.
+// Whether a word tells the run's place in one way, and another was given in another way: `container`, `part`, or `start` and `size`.
 fn both_ways(given: u64, k: usize) -> bool {
+    let placed = has(given, names::START) | has(given, names::SIZE);
     if k == names::CONTAINER {
-        return has(given, names::START) | has(given, names::SIZE);
+        return placed | has(given, names::PART);
     }
-    ((k == names::START) | (k == names::SIZE)) & has(given, names::CONTAINER)
+    if k == names::PART {
+        return placed | has(given, names::CONTAINER);
+    }
+    ((k == names::START) | (k == names::SIZE))
+        & (has(given, names::CONTAINER) | has(given, names::PART))
+}
+
+// How the error of two such words is told: by `part`, where it is one of them.
+fn together(given: u64, k: usize) -> Fault {
+    if (k == names::PART) | has(given, names::PART) {
+        return Fault::PartTogether;
+    }
+    Fault::Together
 }
 
 // Fails where a word does not belong to its place, or was given already.
 fn admit(s: State, out: &mut Buffer, k: usize) -> State
-    requires { ⌜ k < 28 ⌝ }
+    requires { ⌜ k < 29 ⌝ }
     requires { ⌜ Sound s ⌝ }
     ensures { λ r. ⌜ Sound r ⌝ }
 {
@@ -137,11 +161,11 @@ fn admit(s: State, out: &mut Buffer, k: usize) -> State
     if (s.place == state::CANDIDATE) & !has(OF_CANDIDATE, k) {
         return state::fail(s, out, Fault::OfCall, k);
     }
-    if has(s.given, k) {
+    if (k != names::PART) & has(s.given, k) {
         return state::fail(s, out, Fault::Twice, k);
     }
     if both_ways(s.given, k) {
-        return state::fail(s, out, Fault::Together, names::NONE);
+        return state::fail(s, out, together(s.given, k), names::NONE);
     }
     s
 }
@@ -215,7 +239,7 @@ fn bytes(
     out: &mut Buffer,
 ) -> Next
     requires { ⌜ end ≤ length (now line) ⌝ }
-    requires { ⌜ k < 28 ⌝ }
+    requires { ⌜ k < 29 ⌝ }
     requires { ⌜ Sound s ⌝ }
     ensures { λ r. ⌜ (end ≤ r .at) × ((r .at ≤ length (now (line .entry))) × Sound (r .state)) ⌝ }
 {
@@ -239,6 +263,68 @@ fn bytes(
     }
 }
 
+// Feeds the bytes of a line from an index on, one by one, behind what is kept of the run's parts before.
+fn feed_line(line: &[u8], from: usize, before: Fed, kept: &mut [u8]) -> Parted
+    requires { ⌜ from ≤ length (now line) ⌝ }
+{
+    let mut fed = before;
+    let mut at = words::word_start(line, from);
+    while at < line.len() {
+        if line[at] == b'#' {
+            return Parted::Kept(fed);
+        }
+        if line.len() - at < 2 {
+            return Parted::Bad;
+        }
+        match words::byte(line[at], line[at + 1]) {
+            HexByte::Byte(b) => {
+                let one = [b; 1];
+                fed = feed::feed(fed, &one, kept);
+            }
+            HexByte::NotHex => {
+                return Parted::Bad;
+            }
+        }
+        at = words::word_start(line, at + 2);
+    }
+    Parted::Kept(fed)
+}
+
+// The bytes behind `part`, which ends at an index: what is kept of the run stands from where the lent bytes of its candidate begin.
+fn part(
+    line: &[u8],
+    end: usize,
+    s: State,
+    rows: &mut Rows,
+    lent: &mut Buffer,
+    out: &mut Buffer,
+) -> Next
+    requires { ⌜ end ≤ length (now line) ⌝ }
+    requires { ⌜ Sound s ⌝ }
+    ensures { λ r. ⌜ (end ≤ r .at) × ((r .at ≤ length (now (line .entry))) × Sound (r .state)) ⌝ }
+{
+    let from = s.from;
+    if LAST_START < from {
+        return stop(end, s, out, Fault::TooManyBytes, names::NONE);
+    }
+    match feed_line(line, end, s.fed, &mut lent[from..]) {
+        Parted::Kept(fed) => {
+            let mut t = with(s, names::PART);
+            let row = s.count * state::ROW;
+            let size = (fed.size as usize) % (feed::KEPT_ROOM + 1);
+            rows[row + names::START] = from as u64;
+            rows[row + names::SIZE] = size as u64;
+            t.fed = fed;
+            t.used = from + size;
+            Next {
+                at: line.len(),
+                state: t,
+            }
+        }
+        Parted::Bad => stop(end, s, out, Fault::BadHex, names::PART),
+    }
+}
+
 // A word of a call or a candidate, which ends at an index, with what stands behind it.
 pub(crate) fn take(
     line: &[u8],
@@ -250,7 +336,7 @@ pub(crate) fn take(
     out: &mut Buffer,
 ) -> Next
     requires { ⌜ end ≤ length (now line) ⌝ }
-    requires { ⌜ k < 28 ⌝ }
+    requires { ⌜ k < 29 ⌝ }
     requires { ⌜ Sound s ⌝ }
     ensures { λ r. ⌜ (end ≤ r .at) × ((r .at ≤ length (now (line .entry))) × Sound (r .state)) ⌝ }
 {
@@ -266,6 +352,9 @@ pub(crate) fn take(
     }
     if k <= names::LENT {
         return bytes(line, end, k, s, rows, lent, out);
+    }
+    if k == names::PART {
+        return part(line, end, s, rows, lent, out);
     }
     Next {
         at: end,

@@ -4,6 +4,7 @@ use crate::names;
 use crate::say;
 use crate::say::Buffer;
 use crate::say::Fault;
+use feed::Fed;
 
 // Where the next word stands: before the first call; behind `call`; behind `candidate`; or behind an error of its call.
 pub const BEFORE: u8 = 0;
@@ -41,8 +42,22 @@ pub struct State {
     pub count: usize,
     // bytes in the lent run
     pub used: usize,
+    // where the candidate's own bytes begin in it, and what was fed of its parts
+    pub from: usize,
+    pub fed: Fed,
     // bytes of output that are gathered
     pub held: usize,
+}
+
+// Before the first part.
+pub(crate) fn unfed() -> Fed {
+    Fed {
+        size: 0,
+        phase: 0,
+        keep: 0,
+        missing: 0,
+        count: 0,
+    }
 }
 
 pub fn first() -> State
@@ -57,6 +72,8 @@ pub fn first() -> State
         given: 0,
         count: 0,
         used: 0,
+        from: 0,
+        fed: unfed(),
         held: 0,
     }
 }

@@ -93,8 +93,8 @@ fn finding(out: &mut Buffer, held: usize, place: u16, f: Finding) -> usize
     if f.way <= reason::PREFERENCE {
         return sentences::range(out, a, f);
     }
-    if f.way <= reason::BODY {
-        return sentences::container(out, a, f);
+    if (f.way <= reason::BODY) | (reason::HAS_COLOUR < f.way) {
+        return sentences::run(out, a, f);
     }
     constraints::unmet(out, a, place, f)
 }

@@ -24,7 +24,7 @@ const WITHIN: u8 = 2;
 const SHORT: u8 = 255;
 
 // Bytes that hold what is kept of any run: eight containers, an empty one, and the type byte of an option that is cut short.
-const ROOM: usize = 2059;
+pub const KEPT_ROOM: usize = 2059;
 
 // What becomes of an option: the first eight containers are kept whole, the ninth as an empty one.
 fn keep_of(mctype: u8, count: u8) -> u8
@@ -49,7 +49,7 @@ fn keep_byte(state: Fed, byte: u8, kept: &mut [u8]) -> Fed
     ensures written { λ r. ⌜ now (kept .exit) ≡ stored state byte (now (kept .entry)) ⌝ }
 {
     let at = state.size as usize;
-    if at < ROOM {
+    if at < KEPT_ROOM {
         kept[at] = byte;
         return Fed {
             size: state.size + 1,
@@ -185,7 +185,7 @@ pub fn feed(state: Fed, part: &[u8], kept: &mut [u8]) -> Fed
     ensures { λ r. ⌜ r ≡ fed state (now (part .entry)) (length (now (kept .entry))) ⌝ }
     ensures written { λ r. ⌜ now (kept .exit) ≡ fedIn state (now (part .entry)) (now (kept .entry)) ⌝ }
 {
-    if kept.len() < ROOM {
+    if kept.len() < KEPT_ROOM {
         return Fed {
             size: state.size,
             phase: SHORT,

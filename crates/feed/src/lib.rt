@@ -2,4 +2,5 @@
 mod bytes;
 
 pub use bytes::Fed;
+pub use bytes::KEPT_ROOM;
 pub use bytes::feed;

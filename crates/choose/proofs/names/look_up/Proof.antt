@@ -4,10 +4,10 @@ use Rattle.choose.proofs.names.look_up.Statement.{statement}
 use Rattle.choose.proofs.names.look_up.Tie as tie
 
 abbrev Inv-loop : tie.InvT-loop
-Inv-loop word k₀ k = k ≤ 30
+Inv-loop word k₀ k = k ≤ 31
 
 abbrev μ-loop : tie.MeasureT-loop
-μ-loop word k₀ k = 30 - k
+μ-loop word k₀ k = 31 - k
 
 loop-holds : tie.Need-loop-holds Inv-loop μ-loop
 loop-holds c = search needs

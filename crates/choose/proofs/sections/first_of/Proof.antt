@@ -4,10 +4,10 @@ use Rattle.choose.proofs.sections.first_of.Statement.{statement}
 use Rattle.choose.proofs.sections.first_of.Tie as tie
 
 abbrev Inv-loop : tie.InvT-loop
-Inv-loop words k₀ k = k ≤ 28
+Inv-loop words k₀ k = k ≤ 29
 
 abbrev μ-loop : tie.MeasureT-loop
-μ-loop words k₀ k = 28 - k
+μ-loop words k₀ k = 29 - k
 
 loop-holds : tie.Need-loop-holds Inv-loop μ-loop
 loop-holds c = search needs
