@@ -50,55 +50,56 @@ fn is_out_of_range(neighbour: Neighbour) -> bool
     1023 < neighbour.colour
 }
 
-// The first object of a well-formed run with bar 18 or 19.
+// The first object of a well-formed run with bar 18 or 19. The loop over a container's objects is a loop of its own, so that the steps from
+// one container to the next cost an object nothing.
 fn first_barring(neighbour: Neighbour, summary: Summary, run: &[u8]) -> Barring
     requires { ⌜ WellFormed (now run) ⌝ }
     ensures { λ r. ⌜ ((os : List Object) → readRun (now (run .entry)) ≡ wellFormed os → BarsFirst neighbour summary os r) ⌝ }
 {
-    let start = wire::start_of(run);
-    let mut cursor = start.cursor;
-    let mut end = start.end;
+    let from = wire::start_of(run);
+    let mut cursor = from.cursor;
+    let mut end = from.end;
     let mut place: u16 = 0;
-    'objects: loop {
+    'run: loop {
         let container = &run[..end];
-        match wire::next(container, cursor) {
-            Step::Found {
-                header,
-                start,
-                end: stop,
-                next,
-            } => {
-                let mut bar: u8 = 18;
-                while bar < 20 {
-                    if constraints::holds(
-                        bar,
-                        neighbour,
-                        summary,
-                        header,
-                        &container[start..stop],
-                    ) {
-                        break 'objects Barring { number: bar, place };
+        'objects: loop {
+            match wire::next(container, cursor) {
+                Step::Found {
+                    header,
+                    start,
+                    end: stop,
+                    next,
+                } => {
+                    let body = &container[start..stop];
+                    let mut bar: u8 = 18;
+                    while bar < 20 {
+                        if constraints::holds(bar, neighbour, summary, header, body) {
+                            break 'run Barring { number: bar, place };
+                        }
+                        bar += 1;
                     }
-                    bar += 1;
+                    place += 1;
+                    cursor = next;
                 }
-                place += 1;
-                cursor = next;
+                Step::CutShort => {
+                    break 'run Barring { number: 0, place };
+                }
+                Step::End => {
+                    break 'objects;
+                }
             }
-            Step::CutShort => {
-                break 'objects Barring { number: 0, place };
+        }
+        match wire::enter(run, end) {
+            Entry::Into { first, end: behind } => {
+                cursor = first;
+                end = behind;
             }
-            Step::End => match wire::enter(run, end) {
-                Entry::Into { first, end: behind } => {
-                    cursor = first;
-                    end = behind;
-                }
-                Entry::Short => {
-                    break 'objects Barring { number: 0, place };
-                }
-                Entry::Nothing => {
-                    break 'objects Barring { number: 0, place };
-                }
-            },
+            Entry::Short => {
+                break 'run Barring { number: 0, place };
+            }
+            Entry::Nothing => {
+                break 'run Barring { number: 0, place };
+            }
         }
     }
 }

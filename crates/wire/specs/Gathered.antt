@@ -1,16 +1,15 @@
 -- Inside the crate: what the reading pass has gathered of the objects so far.
 use mathlib.Core.Path.{_≡_}
 use Prim.Native.Nat.{ℕ, zero, suc, _+_}
-use mathlib.Core.Bool.{Bool, cond, not}
+use mathlib.Core.Bool.{Bool, cond}
 use mathlib.Core.List.{List, []}
 use mathlib.Core.Option.{some}
 use lib.ListN.{getD}
 use Rattle.model.specs.Number.{anyOf, number, firstOf, indexOf}
 use Rattle.model.specs.Object.{Object, latency, etx, standings}
-use Rattle.model.specs.Reading.{isNone, noPlace, objectBar, readObjects}
+use Rattle.model.specs.Reading.{noPlace, objectBar, readObjects}
 use Rattle.model.specs.Reading as model
 use Rattle.model.specs.Constraint.{countsHops, addsUp, summary, mandatory}
-use Rattle.wire.specs.declared.objects.Cursor.{Cursor}
 use Rattle.wire.specs.declared.gathered.Gathered.{Gathered}
 use Rattle.wire.specs.declared.container.Told.{Told}
 use Rattle.wire.specs.declared.container.Reading.{Reading}
@@ -18,11 +17,14 @@ use Rattle.wire.specs.declared.container.Reading.the-variants.{Refused}
 use Rattle.wire.specs.Seen.{seenAfter}
 use Rattle.wire.specs.Mandatory.{showsMandatory}
 use Rattle.wire.specs.Reading.{toldOf}
-use Rattle.wire.specs.Walk.{objectsFrom}
 
 -- what is told so far
 abbrev pub toldIn : Gathered → Told
 toldIn g = record { hops = g .hops; latency = g .latency; etx = g .etx }
+
+-- before the first object
+abbrev pub untold : Gathered
+untold = record { number = 0; place = 0; seen = 0; hops = 0; latency = 0; etx = 0; flags = 0 }
 
 -- one object more: with a bar, at its index; without one, counted, with the uses seen
 abbrev pub counted : Gathered → (number seen flags : ℕ) → Gathered
@@ -53,10 +55,6 @@ pub record Gathers (g : Gathered) (es : List Object) : Type 0 where
 abbrev pub wholeReading : List Object → model.Reading
 wholeReading os = readObjects (some os)
 
--- no header or body runs past the end of its container, and no option is cut short, from a cursor on, whose container ends at an index
-unfoldable pub wholeFrom : List ℕ → (end : ℕ) → Cursor → Bool
-wholeFrom run end p = not (isNone (objectsFrom run end p))
-
--- a bar among 15 to 17 where the objects behind it are whole, else bar 14
-abbrev pub barredBy : (whole : Bool) → (number place : ℕ) → Reading
-barredBy w n p = cond w (Refused n p) (Refused 14 noPlace)
+-- bar 14 where an object is cut short, else a bar among 15 to 17
+abbrev pub barredBy : (cut : Bool) → (number place : ℕ) → Reading
+barredBy c n p = cond c (Refused 14 noPlace) (Refused n p)
