@@ -4,10 +4,11 @@ use std::env::Args;
 
 pub const USAGE: &str = "usage: compare [--seed S] [--count N] [--from K] | --examples | --help
   tries document 01's examples, then N calls of seed S, the first of them number K
-  (S = 6551, N = 300000, K = 0 unless given); --examples tries the examples alone
+  (S = 6551, N = 200000, K = 0 unless given); --examples tries the examples alone
+  every run of a call is also fed in parts, and the call made on what is kept
   one call in four is also asked for the reason at each position, and for each finding
-  from 200000 calls on, every number and sort of limit, colour, edition, reason, finding and pair is
-  to be there often enough
+  from 150000 calls on, every number and sort of run, limit, colour, edition, feeding, reason, finding
+  and pair is to be there often enough
 exit status: 0 all agrees; 1 a difference, or something there too seldom; 2 bad arguments";
 
 pub struct Arguments {
@@ -28,7 +29,7 @@ impl Arguments {
         let mut arguments = Arguments {
             program: words.next().unwrap_or_else(|| "compare".to_string()),
             seed: 6551,
-            count: 300_000,
+            count: 200_000,
             from: 0,
             examples_only: false,
         };

@@ -1,10 +1,10 @@
 //! How often link colours were tried where a bit, a counter or a range decides.
 
 use super::compare::Given;
-use super::cut::{is_constraint, is_mandatory, objects};
+use super::cut::{is_constraint, is_mandatory};
 use super::generate::Call;
+use super::options::objects;
 use super::ranges::{only, Number};
-use super::reference::data::Candidate;
 
 const COLOUR: u8 = 8;
 
@@ -28,12 +28,12 @@ pub struct Colours {
     /// Colour 0, whatever the link's: with I=1 met, with I=0 not.
     none_included: u64,
     none_excluded: u64,
-    /// Containers passed on in which a counter is one more than received; of these, those that have
-    /// a full one of the link's colour before it.
+    /// Records passed on in which a counter is one more than received; of these, those that have a
+    /// full one of the link's colour before it.
     gained: u64,
     gained_behind_full: u64,
-    /// Containers passed on with a sub-object more than received, in which there was one of the
-    /// link's colour, and in which there was none.
+    /// Records passed on with a sub-object more than received, in which there was one of the link's
+    /// colour, and in which there was none.
     opened_beside_full: u64,
     opened: u64,
     /// Candidates barred by 11 whose colour alone is out of range.
@@ -48,14 +48,14 @@ pub struct Colours {
 }
 
 impl Colours {
-    /// Notes the colours of a call that was answered so.
-    pub fn note(&mut self, call: &Call, given: &Given) {
+    /// Notes the colours of a call that was answered so, whose runs have these objects.
+    pub fn note(&mut self, call: &Call, received: &[Vec<&[u8]>], given: &Given) {
         for (position, candidate) in call.given().iter().enumerate() {
             let verdict = given.answer.verdicts[position];
             let place = given.answer.places[position];
             let colour_alone = only(Number::Colour, call.own.edition, &candidate.neighbour);
             self.out_of_range += u64::from(verdict == 11 && colour_alone);
-            for (index, object) in received(call, candidate).into_iter().enumerate() {
+            for (index, object) in received[position].iter().enumerate() {
                 if object[0] != COLOUR {
                     continue;
                 }
@@ -68,7 +68,10 @@ impl Colours {
                 }
             }
         }
-        self.passed(call, given);
+        let parent = usize::from(given.answer.parent);
+        if let (Some(parent), Some(received)) = (call.given().get(parent), received.get(parent)) {
+            self.passed(parent.neighbour.colour, received, given);
+        }
     }
 
     /// Notes a mandatory constraint of an unbarred candidate.
@@ -96,13 +99,11 @@ impl Colours {
         }
     }
 
-    /// Notes the colours of a container that is passed on, beside those that were received.
-    fn passed(&mut self, call: &Call, given: &Given) {
-        let Some(parent) = call.given().get(usize::from(given.answer.parent)) else {
-            return;
-        };
+    /// Notes the colours that are passed on behind a link of a colour, beside those that were
+    /// received.
+    fn passed(&mut self, link: u16, received: &[&[u8]], given: &Given) {
         let passed = objects(&given.out[..usize::from(given.answer.size)]).unwrap_or_default();
-        for (before, after) in received(call, parent).into_iter().zip(passed) {
+        for (before, after) in received.iter().zip(passed) {
             if before[0] != COLOUR {
                 continue;
             }
@@ -110,7 +111,7 @@ impl Colours {
                 let cleared = before[6] & RESERVED != 0 && after[6] & RESERVED == 0;
                 self.cleared += u64::from(cleared && after[4] == 0);
             } else {
-                self.recorded(&subs(before), &subs(after), parent.neighbour.colour);
+                self.recorded(&subs(before), &subs(after), link);
             }
         }
     }
@@ -150,12 +151,6 @@ impl Colours {
             ("bar 17 at a colour", self.aggregated),
         ]
     }
-}
-
-/// The objects of a candidate's container, if they can be read.
-fn received<'a>(call: &'a Call, candidate: &Candidate) -> Vec<&'a [u8]> {
-    let container = call.container(candidate).and_then(objects);
-    container.unwrap_or_default()
 }
 
 /// The colour that a constraint names, and its I.

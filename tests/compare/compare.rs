@@ -128,7 +128,7 @@ pub struct ToldDifference {
 }
 
 impl ToldDifference {
-    fn new<T: Debug>(what: &'static str, position: usize, expected: &T, given: &T) -> Self {
+    pub fn new<T: Debug>(what: &'static str, position: usize, expected: &T, given: &T) -> Self {
         ToldDifference {
             what,
             position,

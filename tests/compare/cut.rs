@@ -1,19 +1,6 @@
-//! The words of demand 3: the cut of a container, unknown mandatory constraints, and places.
+//! The words of demand 3: the cut of a run, unknown mandatory constraints, and places.
 
-/// The objects of a container, each with its header; none where they do not fill it exactly.
-pub fn objects(container: &[u8]) -> Option<Vec<&[u8]>> {
-    if container.len() < 2 || container[0] != 2 || container.len() - 2 != container[1] as usize {
-        return None;
-    }
-    let mut objects = Vec::new();
-    let mut at = 2;
-    while at < container.len() {
-        let end = at + 4 + *container.get(at + 3)? as usize;
-        objects.push(container.get(at..end)?);
-        at = end;
-    }
-    Some(objects)
-}
+use super::options::{is_container, objects, objects_of, options};
 
 pub fn is_constraint(object: &[u8]) -> bool {
     object[1] & 2 == 2
@@ -50,10 +37,23 @@ pub fn is_unknown_mandatory(object: &[u8]) -> bool {
     is_unknown(object) && is_mandatory(object)
 }
 
+/// The run with each container cut by itself, and every other option as it is.
+pub fn cut(run: &[u8]) -> Option<Vec<u8>> {
+    let mut kept = Vec::new();
+    for option in options(run)? {
+        if is_container(option) {
+            kept.extend(cut_container(option)?);
+        } else {
+            kept.extend_from_slice(option);
+        }
+    }
+    Some(kept)
+}
+
 /// The container without unknown objects and TLVs, its lengths set anew.
-pub fn cut(container: &[u8]) -> Option<Vec<u8>> {
+fn cut_container(container: &[u8]) -> Option<Vec<u8>> {
     let mut kept = vec![container[0], 0];
-    for object in objects(container)? {
+    for object in objects_of(container)? {
         if is_unknown(object) {
             continue;
         }
@@ -69,8 +69,8 @@ pub fn cut(container: &[u8]) -> Option<Vec<u8>> {
     Some(kept)
 }
 
-/// Whether unknown objects and TLVs have in the container passed on the places that they had in
-/// the received one, unaltered but for the header bits that document 01 lists.
+/// Whether unknown objects and TLVs have among the objects passed on the places that they had among
+/// those received, unaltered but for the header bits that document 01 lists.
 pub fn places_kept(received: &[u8], passed: &[u8]) -> Result<(), String> {
     let (Some(before), Some(after)) = (objects(received), objects(passed)) else {
         return Err("a container's objects do not fill it".to_string());

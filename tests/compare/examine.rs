@@ -2,10 +2,10 @@
 //! as asked, and fits the library's verdict.
 
 use super::compare::{self, ToldDifference};
-use super::cut::objects;
 use super::findings::Findings;
 use super::generate::Call;
 use super::guarded::Guarded;
+use super::options::objects;
 use super::random::Random;
 use super::reference::data::{Answer, Finding, CANDIDATES};
 use super::reference::way;
@@ -40,7 +40,7 @@ fn misfit(
         return Some("what was found is as asked");
     }
     let told = match answer.verdicts[position] {
-        number @ (11..=14 | 19) => number,
+        number @ (11 | 12 | 14 | 19 | 22 | 23) => number,
         _ => 0,
     };
     let (number, kind) = told_of(finding.way);
@@ -55,17 +55,16 @@ fn misfit(
 
 /// The object that bars a candidate by 15 to 19.
 pub fn barring<'a>(call: &'a Call, answer: &Answer, position: usize) -> Option<&'a [u8]> {
-    let container = call.container(&call.candidates[position])?;
+    let run = call.run(&call.candidates[position])?;
     let place = usize::from(answer.places[position]);
-    objects(container)?.get(place).copied()
+    objects(run)?.get(place).copied()
 }
 
 /// The bar that a way is told of, and for 19 the type of the constraint; else 0.
-fn told_of(way: u8) -> (u8, u8) {
+pub fn told_of(way: u8) -> (u8, u8) {
     match way {
         way::SP..=way::PREFERENCE => (11, 0),
         way::OUTSIDE => (12, 0),
-        way::SHORT..=way::DATA => (13, 0),
         way::HEADER | way::BODY => (14, 0),
         way::AGGREGATOR | way::OVERLOADED => (19, 1),
         way::OTHER_TYPE..=way::BARRED_UNKNOWN => (19, 2),
@@ -75,6 +74,8 @@ fn told_of(way: u8) -> (u8, u8) {
         way::ETX..=way::UNKNOWN_ETX => (19, 7),
         way::QUALITY | way::UNKNOWN_QUALITY => (19, 6),
         way::LACKS_COLOUR | way::HAS_COLOUR => (19, 8),
+        way::OPTION | way::OPTION_DATA => (22, 0),
+        way::CONTAINERS => (23, 0),
         _ => (0, 0),
     }
 }
@@ -90,15 +91,15 @@ fn falls_short(finding: &Finding) -> bool {
     match way {
         way::SP..=way::PREFERENCE => !(which..=asked).contains(&found),
         way::OUTSIDE => u128::from(which) + u128::from(asked) > u128::from(found),
-        way::SHORT | way::HEADER | way::BODY => found < asked,
-        way::FIRST_BYTE | way::DATA | way::OTHER_TYPE => found != asked,
+        way::HEADER | way::BODY | way::OPTION | way::OPTION_DATA => found < asked,
+        way::OTHER_TYPE => found != asked,
         way::BARRED_TYPE => found == asked,
         way::LITTLE_ENERGY => found <= asked,
         way::BARRED_ENERGY | way::THROUGHPUT => found < asked,
         way::HOPS => found >= asked,
         way::LATENCY | way::ETX => which == 0 && found > asked,
         way::PATH_LATENCY | way::PATH_ETX => which > 0 && which <= found && found > asked,
-        way::QUALITY => found > asked,
+        way::QUALITY | way::CONTAINERS => found > asked,
         way::LACKS_COLOUR => asked & !found != 0,
         way::HAS_COLOUR => asked & !found == 0,
         _ => found == 0,

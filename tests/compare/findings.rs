@@ -2,10 +2,15 @@
 
 use super::examine::barring;
 use super::generate::Call;
+use super::options::{containers, objects_of};
 use super::ranges::out;
 use super::reference::data::{Answer, Candidate, Finding, OVERLOADED, SECOND_EDITION};
 use super::reference::way;
 use super::report::{Counts, Row};
+use std::ops::RangeInclusive;
+
+/// The ways of bar 13, which no call gives.
+const FRAMES: RangeInclusive<u8> = 10..=12;
 
 /// The E bit of an NE flags byte.
 const ESTIMATED: u8 = 0x01;
@@ -16,12 +21,14 @@ pub struct Findings {
     /// preference that only edition 2 would not allow.
     refused_own: u64,
     unread: u64,
-    /// The first way is told of several: numbers out of range; byte 0 and the data; an aggregating
-    /// node and one not overloaded; type and energy.
+    /// The first way is told of several: numbers out of range; an aggregating node and one not
+    /// overloaded; type and energy.
     ranges: u64,
-    frames: u64,
     states: u64,
     energies: u64,
+    /// Objects cut short in another container than the first, and options cut short behind others.
+    later_object: u64,
+    later_option: u64,
     /// Sums that are beyond the field of a latency or an ETX.
     latency_beyond: u64,
     etx_beyond: u64,
@@ -37,9 +44,10 @@ impl Findings {
             refused_own: 0,
             unread: 0,
             ranges: 0,
-            frames: 0,
             states: 0,
             energies: 0,
+            later_object: 0,
+            later_option: 0,
             latency_beyond: 0,
             etx_beyond: 0,
             latency_unknown: 0,
@@ -61,11 +69,12 @@ impl Findings {
                 let out = out(call.own.edition, &candidate.neighbour);
                 self.ranges += u64::from(out.iter().filter(|&&out| out).count() > 1);
             }
-            way::FIRST_BYTE => self.frames += u64::from(data_wrong(call, candidate)),
             way::AGGREGATOR | way::OTHER_TYPE => {
                 let constraint = barring(call, answer, position);
                 self.constraint(way, constraint, candidate);
             }
+            way::HEADER | way::BODY => self.later_object += u64::from(later(call, candidate)),
+            way::OPTION | way::OPTION_DATA => self.later_option += u64::from(which > 0),
             way::PATH_LATENCY => self.latency_beyond += u64::from(found > u32::MAX.into()),
             way::PATH_ETX => self.etx_beyond += u64::from(found > u16::MAX.into()),
             way::UNKNOWN_LATENCY => self.latency_unknown += u64::from(which != 0),
@@ -89,13 +98,19 @@ impl Findings {
         }
     }
 
-    /// The ways that were told, each to be told often enough.
+    /// The ways that were told, each to be told often enough; bar 13's are not among them.
     pub fn numbers(&self) -> Vec<Row<'_>> {
-        vec![("finding", (0..=way::HAS_COLOUR).collect(), &self.ways)]
+        let ways = (0..=way::CONTAINERS).filter(|way| !FRAMES.contains(way));
+        vec![("finding", ways.collect(), &self.ways)]
+    }
+
+    /// The ways that were told and are not to be.
+    pub fn never(&self) -> Row<'_> {
+        ("finding", FRAMES.collect(), &self.ways)
     }
 
     /// What else was counted, in words.
-    pub fn counts(&self) -> [(&'static str, u64); 10] {
+    pub fn counts(&self) -> [(&'static str, u64); 11] {
         [
             (
                 "findings for own numbers that are refused",
@@ -103,9 +118,16 @@ impl Findings {
             ),
             ("findings, out of range in edition 2 alone", self.unread),
             ("findings, several numbers out of range", self.ranges),
-            ("findings, byte 0 and data wrong", self.frames),
             ("findings, neither aggregating nor free", self.states),
             ("findings, another type and its energy", self.energies),
+            (
+                "findings, an object cut short in a later container",
+                self.later_object,
+            ),
+            (
+                "findings, an option cut short behind others",
+                self.later_option,
+            ),
             ("findings, a latency beyond the field", self.latency_beyond),
             ("findings, an ETX beyond the field", self.etx_beyond),
             (
@@ -123,10 +145,10 @@ fn only_edition_2_bars(call: &Call, candidate: &Candidate) -> bool {
     bars(SECOND_EDITION) && !bars(call.own.edition)
 }
 
-/// Whether byte 1 of a candidate's container is not the length of what follows.
-fn data_wrong(call: &Call, candidate: &Candidate) -> bool {
-    match call.container(candidate) {
-        Some([_, length, data @ ..]) => usize::from(*length) != data.len(),
-        _ => false,
-    }
+/// Whether the objects of the first container fill it, so that one that is cut short stands in
+/// another.
+fn later(call: &Call, candidate: &Candidate) -> bool {
+    let containers = call.run(candidate).and_then(containers);
+    let first = containers.as_ref().and_then(|all| all.first());
+    first.is_some_and(|first| objects_of(first).is_some())
 }

@@ -3,9 +3,9 @@
 
 use super::compare::Given;
 use super::generate::{set_any_site, Call};
-use super::pairs::{run, Pair, Wrong};
 use super::random::Random;
 use super::reference::data::FIRST_EDITION;
+use super::wrong::{run, Pair, Wrong};
 
 /// Makes the second call of an unrefused call of edition 1, and tells whether there was one.
 pub fn check(random: &mut Random, call: &Call, given: &Given) -> Result<bool, Wrong> {
@@ -25,5 +25,6 @@ pub fn check(random: &mut Random, call: &Call, given: &Given) -> Result<bool, Wr
         second,
         given: [given.clone(), other],
     };
-    Err(Wrong::FirstEdition(Box::new(pair)))
+    let what = "edition 1 reads order, grounded or preference";
+    Err(Wrong::Pair(what.to_string(), Box::new(pair)))
 }

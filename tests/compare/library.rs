@@ -1,6 +1,6 @@
 //! The proved static library, behind safe functions of the reference's form.
 
-use super::reference::data::{Answer, Candidate, Finding, Own, Reason, CANDIDATES};
+use super::reference::data::{Answer, Candidate, Fed, Finding, Own, Reason, CANDIDATES};
 
 #[repr(C)]
 #[derive(Clone, Copy)]
@@ -32,6 +32,13 @@ extern "C" {
         lent: *const u8,
         lent_len: usize,
     ) -> Finding;
+    fn gardhnosk_feed(
+        state: Fed,
+        part: *const u8,
+        part_len: usize,
+        kept: *mut u8,
+        kept_len: usize,
+    ) -> Fed;
     fn gardhnosk_list(container: *const u8, len: usize, out: *mut u8, out_len: usize) -> usize;
 }
 
@@ -85,6 +92,20 @@ pub fn why(
 pub fn examine(own: Own, candidate: &Candidate, lent: &mut [u8]) -> Finding {
     // SAFETY: the pointer is good for the length beside it.
     unsafe { gardhnosk_examine(own, *candidate, lent.as_mut_ptr(), lent.len()) }
+}
+
+/// The library's state after a part of a run, what is kept of the run being in `kept`.
+pub fn feed(state: Fed, part: &mut [u8], kept: &mut [u8]) -> Fed {
+    // SAFETY: both pointers are good for the lengths beside them, and the parts do not overlap.
+    unsafe {
+        gardhnosk_feed(
+            state,
+            part.as_mut_ptr(),
+            part.len(),
+            kept.as_mut_ptr(),
+            kept.len(),
+        )
+    }
 }
 
 /// The library's listing of a container.

@@ -1,14 +1,14 @@
 //! How often limits on latency and ETX were tried where more than the link's value could decide.
 
-use super::cut::{is_constraint, is_mandatory, is_recorded, objects};
+use super::cut::{is_constraint, is_mandatory, is_recorded};
 use super::generate::Call;
 use super::reference::data::{Answer, Neighbour};
 
 const LATENCY: u8 = 5;
 const ETX: u8 = 7;
 
-/// How often mandatory limits that the link's value meets were not met, or stood in the container
-/// of an unbarred candidate beside a metric that takes them to their edge or beyond.
+/// How often mandatory limits that the link's value meets were not met, or stood in the run of an
+/// unbarred candidate beside a metric that takes them to their edge or beyond.
 #[derive(Default)]
 pub struct Limits {
     unmet: u64,
@@ -20,17 +20,16 @@ pub struct Limits {
 }
 
 impl Limits {
-    /// Notes the limits of a call that was answered so.
-    pub fn note(&mut self, call: &Call, answer: &Answer) {
+    /// Notes the limits of a call that was answered so, whose runs have these objects.
+    pub fn note(&mut self, call: &Call, received: &[Vec<&[u8]>], answer: &Answer) {
         for (position, candidate) in call.given().iter().enumerate() {
-            let container = call.container(candidate).and_then(objects);
-            let container = container.unwrap_or_default();
-            for (place, limit) in container.iter().enumerate() {
+            let objects = &received[position];
+            for (place, limit) in objects.iter().enumerate() {
                 let Some(spare) = spare(limit, &candidate.neighbour) else {
                     continue;
                 };
                 match answer.verdicts[position] {
-                    10 => container
+                    10 => objects
                         .iter()
                         .for_each(|one| self.beside(limit, spare, one)),
                     19 if answer.places[position] == place as u16 => self.unmet(limit),

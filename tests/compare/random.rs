@@ -80,7 +80,7 @@ impl Random {
     pub fn edgy_size(&mut self) -> usize {
         let plain = self.next() as usize;
         let high = usize::MAX;
-        let small = self.below(600);
+        let small = self.below(2600);
         self.pick(&[0, 1, 256, 1 << 32, high >> 1, high - 1, high, plain, small])
     }
 
@@ -100,8 +100,13 @@ impl Random {
             bytes.fill(value);
             return;
         }
-        for byte in bytes {
-            *byte = self.byte();
+        self.scatter(bytes);
+    }
+
+    /// Fills the bytes at random.
+    pub fn scatter(&mut self, bytes: &mut [u8]) {
+        for some in bytes.chunks_mut(8) {
+            some.copy_from_slice(&self.next().to_le_bytes()[..some.len()]);
         }
     }
 }

@@ -6,7 +6,7 @@ use super::reference::data::{Answer, Reason, FIRST_EDITION};
 use super::reference::reason::{
     BARRED, BEATEN, BY_ORDER, BY_POSITION, BY_RANK, CHOSEN, NO_SUCH_POSITION, REFUSED,
 };
-use super::report::{Counts, Row};
+use super::report::{Counts, Row, BARS};
 
 /// What refuses a question, and what is counted as refused before the last of these.
 const REFUSALS: [u8; 6] = [0, 1, 2, 3, 5, 6];
@@ -116,7 +116,7 @@ impl Reasons {
         vec![
             ("reason refused", REFUSALS.to_vec(), &self.refusals),
             ("reason", (REFUSED..=BEATEN).collect(), &self.kinds),
-            ("reason barred", (11..=21).collect(), &self.bars),
+            ("reason barred", BARS.to_vec(), &self.bars),
             (
                 "edition 1, beaten by",
                 (BY_RANK..=BY_POSITION).collect(),

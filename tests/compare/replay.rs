@@ -1,8 +1,9 @@
 //! A difference is printed so that it can be replayed by a command, or by hand.
 
 use super::compare::{Difference, Given, ListingDifference, ToldDifference};
+use super::feeder::FeedDifference;
 use super::generate::Call;
-use super::pairs::{Pair, Wrong};
+use super::wrong::{Pair, Wrong};
 
 /// Which call of which seed is tried, and the name that the program was started by.
 pub struct Place {
@@ -51,12 +52,13 @@ impl Place {
                 println!("(a further call, made for a pair or for what is told)");
             }
             Wrong::Told(call, difference) => self.told(call, difference),
-            Wrong::Sentence(sentence, pair) => {
-                self.both(&format!("demand 3 does not hold: {sentence}"), pair);
+            Wrong::Pair(what, pair) => self.both(what, pair),
+            Wrong::Sent(what, call, given) => {
+                self.print(what);
+                print_call(call);
+                print_given("given", given);
             }
-            Wrong::FirstEdition(pair) => {
-                self.both("edition 1 reads order, grounded or preference", pair);
-            }
+            Wrong::Feed(difference) => self.feed(difference),
         }
     }
 
@@ -66,6 +68,17 @@ impl Place {
         println!("position: {}", difference.position);
         println!("expected: {}", difference.expected);
         println!("given: {}", difference.given);
+    }
+
+    fn feed(&self, difference: &FeedDifference) {
+        self.print(difference.what);
+        println!("fed, the last part too: {}", hex(&difference.fed));
+        println!("sizes of the parts: {:?}", difference.parts);
+        println!("state before the last part: {:?}", difference.before);
+        println!("state after it: {:?}", difference.after);
+        println!("expected to be kept: {}", hex(&difference.expected));
+        let kept = &difference.kept;
+        println!("buffer, {} bytes: {}", kept.len(), hex(kept));
     }
 
     fn both(&self, what: &str, pair: &Pair) {
@@ -90,11 +103,11 @@ fn print_call(call: &Call) {
         };
         println!("candidate {index}{past}: {:?}", candidate.neighbour);
         let (start, size) = (candidate.start, candidate.size);
-        let container = match call.container(candidate) {
-            Some(container) => hex(container),
+        let run = match call.run(candidate) {
+            Some(run) => hex(run),
             None => "not inside".to_string(),
         };
-        println!("  start {start}, size {size}: {container}");
+        println!("  start {start}, size {size}: {run}");
     }
     println!("lent, {} bytes: {}", call.lent.len(), hex(&call.lent));
     println!(

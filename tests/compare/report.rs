@@ -3,47 +3,37 @@
 use super::colours::Colours;
 use super::compare::{Given, Listed};
 use super::editions::Editions;
+use super::feedings::Feedings;
 use super::findings::Findings;
 use super::generate::Call;
 use super::limits::Limits;
-use super::pairs::Sort;
+use super::options::objects;
+use super::pair_counts::Pairs;
 use super::reasons::Reasons;
-use super::reference::data::Answer;
+use super::runs::Runs;
+use super::sent::Sent;
 
-/// Every number is to be given so often, every sort of limit, colour, edition, reason and finding
-/// to be tried so often, and every sort of pair.
+/// Every number is to be given so often, every sort of run, limit, colour, edition, feeding, reason
+/// and finding to be tried so often, and every sort of pair.
 const LEAST: u64 = 100;
 const LEAST_PAIRS: u64 = 5000;
 
-/// What is asked of a run only if it has so many calls.
-pub const ASKED_FROM: u64 = 200_000;
+/// What is asked only of so many calls.
+pub const ASKED_FROM: u64 = 150_000;
 
 const REFUSALS: [u8; 6] = [0, 1, 2, 3, 4, 5];
-const VERDICTS: [u8; 13] = [0, 10, 11, 12, 13, 14, 15, 16, 17, 18, 19, 20, 21];
+pub const BARS: [u8; 12] = [11, 12, 14, 15, 16, 17, 18, 19, 20, 21, 22, 23];
 const LEAVES: [u8; 7] = [0, 31, 32, 33, 34, 35, 36];
 const LISTINGS: [u8; 6] = [0, 13, 14, 15, 16, 17];
+
+/// The bar that only a listing gives.
+const FRAME: u8 = 13;
 
 /// How often each number of 8 bits was given.
 pub type Counts = [u64; 256];
 
 /// A name, the numbers that are to be given, and how often each was.
 pub type Row<'a> = (&'static str, Vec<u8>, &'a Counts);
-
-/// How often each sort of pair was tried.
-#[derive(Default)]
-struct Pairs {
-    all: u64,
-    second_edition: u64,
-    mandatory: u64,
-    freed: u64,
-    passed: u64,
-    passed_unknown: u64,
-    passed_tlvs: u64,
-    passed_cut: u64,
-    /// Pairs of edition 1 that differ in what only edition 2 reads.
-    unread: u64,
-    unread_with_choice: u64,
-}
 
 pub struct Report {
     calls: u64,
@@ -52,12 +42,15 @@ pub struct Report {
     leaves: Counts,
     listings: Counts,
     without_room: u64,
+    runs: Runs,
+    sent: Sent,
     limits: Limits,
     colours: Colours,
     editions: Editions,
+    pub feedings: Feedings,
     pub reasons: Reasons,
     pub findings: Findings,
-    pairs: Pairs,
+    pub pairs: Pairs,
 }
 
 impl Report {
@@ -69,9 +62,12 @@ impl Report {
             leaves: [0; 256],
             listings: [0; 256],
             without_room: 0,
+            runs: Runs::default(),
+            sent: Sent::default(),
             limits: Limits::default(),
             colours: Colours::default(),
             editions: Editions::default(),
+            feedings: Feedings::default(),
             reasons: Reasons::new(),
             findings: Findings::new(),
             pairs: Pairs::default(),
@@ -92,8 +88,12 @@ impl Report {
         if answer.parent != 255 {
             self.leaves[usize::from(answer.leaf)] += 1;
         }
-        self.limits.note(call, answer);
-        self.colours.note(call, given);
+        self.runs.note(call, answer);
+        self.sent.note(call, given);
+        let received = |one| call.run(one).and_then(objects).unwrap_or_default();
+        let received: Vec<Vec<&[u8]>> = call.given().iter().map(received).collect();
+        self.limits.note(call, &received, answer);
+        self.colours.note(call, &received, given);
         self.editions.note(call, answer);
     }
 
@@ -110,23 +110,6 @@ impl Report {
         self.listings[number] += 1;
     }
 
-    pub fn pair(&mut self, sort: &Sort) {
-        self.pairs.all += 1;
-        self.pairs.second_edition += u64::from(sort.second_edition);
-        self.pairs.mandatory += u64::from(sort.mandatory);
-        self.pairs.freed += u64::from(sort.freed);
-        self.pairs.passed += u64::from(sort.passed);
-        self.pairs.passed_unknown += u64::from(sort.passed_unknown);
-        self.pairs.passed_tlvs += u64::from(sort.passed_tlvs);
-        self.pairs.passed_cut += u64::from(sort.passed_cut);
-    }
-
-    /// Notes a pair of edition 1 that was answered so; there is a choice between two or more.
-    pub fn first_edition(&mut self, answer: &Answer) {
-        self.pairs.unread += 1;
-        self.pairs.unread_with_choice += u64::from(answer.count > 1);
-    }
-
     /// Prints what was given how often.
     pub fn print(&self) {
         println!("calls: {}", self.calls);
@@ -134,7 +117,7 @@ impl Report {
             print_counts(name, &numbers, counts);
         }
         println!("listing without room: {}", self.without_room);
-        for (name, count) in self.sorts().into_iter().chain(self.pair_sorts()) {
+        for (name, count) in self.sorts().into_iter().chain(self.pairs.counts()) {
             println!("{name}: {count}");
         }
     }
@@ -143,7 +126,7 @@ impl Report {
     fn numbers(&self) -> Vec<Row<'_>> {
         let mut rows = vec![
             ("refusal", REFUSALS.to_vec(), &self.refusals),
-            ("verdict", VERDICTS.to_vec(), &self.verdicts),
+            ("verdict", [&[0, 10], &BARS[..]].concat(), &self.verdicts),
             ("leaf", LEAVES.to_vec(), &self.leaves),
             ("listing refused", LISTINGS.to_vec(), &self.listings),
         ];
@@ -152,34 +135,41 @@ impl Report {
         rows
     }
 
-    /// How often each sort of limit, colour, edition, reason and finding was tried.
+    /// The numbers that are not to be given: bar 13 in a call, and what was found of it.
+    fn never(&self) -> [Row<'_>; 2] {
+        [
+            ("verdict", vec![FRAME], &self.verdicts),
+            self.findings.never(),
+        ]
+    }
+
+    /// How often each sort of run, limit, colour, edition, feeding, reason and finding was tried.
     fn sorts(&self) -> Vec<(&'static str, u64)> {
-        let limits = self.limits.counts().into_iter();
-        let mut sorts: Vec<(&'static str, u64)> = limits.chain(self.colours.counts()).collect();
+        let mut sorts = self.runs.counts();
+        sorts.extend(self.sent.counts());
+        sorts.extend(self.limits.counts());
+        sorts.extend(self.colours.counts());
         sorts.extend(self.editions.counts());
+        sorts.extend(self.feedings.counts());
         sorts.extend(self.reasons.counts());
         sorts.extend(self.findings.counts());
         sorts
     }
 
-    fn pair_sorts(&self) -> [(&'static str, u64); 11] {
-        let pairs = &self.pairs;
-        [
-            ("pairs of demand 3", pairs.all),
-            ("in edition 1", pairs.all - pairs.second_edition),
-            ("in edition 2", pairs.second_edition),
-            ("with an unknown mandatory constraint", pairs.mandatory),
-            ("with a candidate barred for that alone", pairs.freed),
-            ("passing a container on", pairs.passed),
-            ("passing unknown objects on", pairs.passed_unknown),
-            ("passing TLVs on", pairs.passed_tlvs),
-            ("equal once cut, with something to cut", pairs.passed_cut),
-            ("pairs of what edition 1 does not read", pairs.unread),
-            ("with two unbarred or more", pairs.unread_with_choice),
-        ]
+    /// What was given and is not to be, a line each.
+    pub fn wrongly(&self) -> Vec<String> {
+        let mut lines = Vec::new();
+        for (name, numbers, counts) in self.never() {
+            for number in numbers {
+                if counts[usize::from(number)] > 0 {
+                    lines.push(format!("{name} {number} was given"));
+                }
+            }
+        }
+        lines
     }
 
-    /// What was given or tried too seldom, a line each; a run of few calls is not asked.
+    /// What was given or tried too seldom, a line each; few calls are not asked.
     pub fn too_seldom(&self) -> Vec<String> {
         let mut lines = Vec::new();
         for (name, numbers, counts) in self.numbers() {
@@ -199,7 +189,7 @@ impl Report {
                 lines.push(format!("{name}: fewer than {LEAST}"));
             }
         }
-        for (name, count) in self.pair_sorts() {
+        for (name, count) in self.pairs.counts() {
             if count < LEAST_PAIRS {
                 lines.push(format!("{name}: fewer than {LEAST_PAIRS}"));
             }

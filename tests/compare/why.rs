@@ -5,17 +5,16 @@ use super::compare::{self, Given, ToldDifference};
 use super::editions::{criteria, decisive, left_out};
 use super::generate::{pattern, Call};
 use super::guarded::Guarded;
-use super::pairs::{run, Wrong};
 use super::random::Random;
 use super::reasons::Reasons;
-use super::reference::data::{Answer, Reason, CANDIDATES};
+use super::reference::data::{Answer, Reason, CANDIDATES, OUTPUT_ROOM};
 use super::reference::reason::{
     BARRED, BEATEN, BY_ORDER, BY_POSITION, BY_RANK, CHOSEN, NO_SUCH_POSITION, REFUSED,
 };
+use super::wrong::{run, Wrong};
 
-/// The refusal of an output that is too short, and a length that is not.
+/// The refusal of an output that is too short.
 pub const NO_ROOM: u8 = 4;
-const ROOM: usize = 257;
 
 /// What the library chooses where the output is long enough: then nothing refuses the choice but
 /// what refuses the question too.
@@ -24,7 +23,7 @@ pub fn answer(random: &mut Random, call: &Call, given: &Given) -> Result<Answer,
         return Ok(given.answer);
     }
     let mut roomy = call.clone();
-    roomy.out = pattern(random, ROOM);
+    roomy.out = pattern(random, OUTPUT_ROOM);
     Ok(run(random, &roomy)?.answer)
 }
 

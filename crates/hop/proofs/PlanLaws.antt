@@ -2,18 +2,19 @@
 use mathlib.Core.Path.{_≡_, refl, sym, ap, _∙_}
 use Prim.Native.Nat.{ℕ, zero, suc, _+_, _/_, _%_, _≤_, _<_}
 use native.Mathlib.Omega.{arith}
-use mathlib.Core.Bool.{true, false}
-use mathlib.Core.List.{List, [], _∷_, _++_, append-nil}
-use mathlib.Core.Option.{some}
-use lib.ListN.{length, take}
+use mathlib.Core.Bool.{true, false, true≢false}
+use mathlib.Core.List.{List, [], _∷_, _++_, append-assoc, append-nil}
+use mathlib.Core.Option.{Option, none, some}
+use lib.ListN.{length, take, drop}
+use lib.Seq.{slice}
 use borrow.Author.Tests.{lt-ltb, le-ltb}
 use Rattle.model.specs.declared.Own.{Own}
 use Rattle.model.specs.declared.Neighbour.{Neighbour}
 use Rattle.model.specs.Number.{first, firstOf}
-use Rattle.model.specs.Object.{Object, kindOf, roleOf, join, bytesOf}
+use Rattle.model.specs.Object.{Object, kindOf, roleOf, split, join, bytesOf}
 use Rattle.model.specs.Run.{runObjects}
 use Rattle.model.specs.Update.{nextBody, updateObject, update, objectLeaf, tooLong, leafAnswer}
-use Rattle.model.proofs.ObjectLaws.{join-append}
+use Rattle.model.proofs.ObjectLaws.{behind, join-append}
 use Rattle.model.proofs.FirstLaws.{first-snoc}
 use Rattle.model.proofs.ShapeLaws.{update-append}
 use Rattle.wire.specs.declared.objects.Header.{Header}
@@ -24,14 +25,17 @@ use Rattle.wire.specs.declared.options.Start.{Start}
 use Rattle.wire.specs.Step.{stepAt, objectOf, objectIn}
 use Rattle.wire.specs.Entry.{entryAt}
 use Rattle.wire.specs.Start.{startOf}
-use Rattle.wire.proofs.RunWalkLaws.{RunWalked, run-first, run-found, run-enter, run-short, run-cut, run-end}
+use Rattle.wire.specs.Walk.{Inside, objectsFrom}
+use Rattle.wire.proofs.RunWalkLaws.{start-on, from-start, enter-on, from-enter, from-cut, from-nothing}
 use Rattle.hop.specs.declared.plan.Filled.{Filled}
 use Rattle.hop.specs.declared.plan.Planned.{Planned}
+use Rattle.hop.specs.declared.plan.Passed.{Passed}
 use Rattle.hop.specs.declared.plan.Sent.{Sent}
-use Rattle.model.specs.Pack.{unpackable, packed}
+use Rattle.model.specs.Pack.{unpackable}
 use Rattle.hop.specs.Sent.{sendsObjects, sentOf}
-use Rattle.hop.specs.Planned.{Small, Fills, Plans}
+use Rattle.hop.specs.Planned.{Small, Fills, Plans, Passes}
 use Rattle.hop.proofs.PackingLaws.{fills-first, packs-size}
+use Rattle.hop.proofs.PartLaws.{Within, within-first, within-found, within-end, within-short, from-part, from-broken, at-end}
 
 -- the body of an object for the next hop
 abbrev pub bodyNext : Own → Neighbour → Header → List ℕ → List ℕ
@@ -95,12 +99,40 @@ module _ (own : Own) (c : Neighbour) (os : List Object) (p : Planned) (q : Plans
       let over : unpackable (update own c os) ≡ false = sym (q .fills .over) ∙ le-ltb 255 (p .filled .fill) t in
       rw (none, over, packs-size (q .fills .packs t))
 
--- ---- the pass over a run's objects
+-- ---- the objects of a container
+
+-- those up to a cursor are planned, behind others
+pub record Passing (own : Own) (c : Neighbour) (bs : List ℕ) (from k : Cursor) (es : List Object) (p : Planned) : Type 0 where
+  pub earlier : List Object
+  pub within : Within bs from k earlier
+  pub plans : Plans own c p (es ++ earlier)
+
+module _ (own : Own) (c : Neighbour) (bs : List ℕ) (from : Cursor) (es : List Object) where
+  pub passing-first : (p : Planned) → Plans own c p es → Passing own c bs from from es p
+  passing-first p q = record { earlier = []; within = within-first bs from; plans = rw (append-nil es) q }
+
+  module _ (k : Cursor) (p : Planned) (q : Passing own c bs from k es p) where
+    pub passing-found : {h : Header} {start end : ℕ} {n : Cursor} {r : Planned} → stepAt bs k ≡ Found h start end n
+        → ((es : List Object) → Plans own c p es → Plans own c r (es ++ (objectIn bs h start end ∷ []))) → Passing own c bs from n es r
+    passing-found {h} {start} {end} e f = record {
+      earlier = q .earlier ++ (objectIn bs h start end ∷ []);
+      within = within-found bs from k (q .earlier) (q .within) e;
+      plans = rw (← append-assoc es (q .earlier) (objectIn bs h start end ∷ [])) (f (es ++ q .earlier) (q .plans));
+    }
+
+    pub passing-end : stepAt bs k ≡ End → Passes own c (record { planned = p; whole = true }) es (split (drop (from .at) bs))
+    passing-end e = rw (within-end bs from k (q .earlier) (q .within) e) (refl, q .plans)
+
+    pub passing-short : stepAt bs k ≡ CutShort → Passes own c (record { planned = p; whole = false }) es (split (drop (from .at) bs))
+    passing-short e = rw (within-short bs from k (q .earlier) (q .within) e) refl
+
+-- ---- the pass over a run's containers
 
 -- the objects before a cursor are planned
 pub record Planning (own : Own) (c : Neighbour) (run : List ℕ) (end : ℕ) (k : Cursor) (p : Planned) : Type 0 where
+  pub inside : Inside run end k
   pub earlier : List Object
-  pub walked : RunWalked run end k earlier
+  pub so-far : runObjects run ≡ behind earlier (objectsFrom run end k)
   pub plans : Plans own c p earlier
   pub small : Small (p .filled)
 
@@ -108,32 +140,60 @@ module _ (own : Own) (c : Neighbour) (run : List ℕ) where
   pub planning-first : (s : Start) → s ≡ startOf run → Planning own c run (s .end) (s .cursor) (record { leaf = 0; filled = record { closed = 0; frame = 0; fill = 0 } })
   unfolding firstOf
   planning-first s e = record {
+    inside = start-on run s e;
     earlier = [];
-    walked = run-first run s e;
+    so-far = sym (from-start run s e) ∙ go (objectsFrom run (s .end) (s .cursor));
     plans = record { leaf = refl; fills = fills-first };
     small = record { few = omega arith; room = omega arith; short = omega arith };
   }
+    where
+      go : (r : Option (List Object)) → r ≡ behind [] r
+      go none = refl
+      go (some os) = refl
 
-  module _ (end : ℕ) (k : Cursor) (p : Planned) (q : Planning own c run end k p) where
-    pub planning-found : {h : Header} {start stop : ℕ} {n : Cursor} {r : Planned} → stepAt (take end run) k ≡ Found h start stop n
-        → Small (r .filled) → ((es : List Object) → Plans own c p es → Plans own c r (es ++ (objectIn (take end run) h start stop ∷ []))) → Planning own c run end n r
-    planning-found {h} {start} {stop} e s f = record {
-      earlier = q .earlier ++ (objectIn (take end run) h start stop ∷ []);
-      walked = run-found run end k (q .earlier) (q .walked) e;
-      plans = f (q .earlier) (q .plans);
-      small = s;
-    }
+  module _ (end : ℕ) (k : Cursor) (p : Planned) (q : Planning own c run end k p) (r : Passed)
+      (f : (es : List Object) → Plans own c p es → Passes own c r es (split (slice (k .at) end run))) where
+    -- the objects of the container are cut short
+    pub planning-short : r .whole ≡ false → record { leaf = 0; size = 0 } ≡ sentOf (sendsObjects own c (runObjects run))
+    planning-short z = go (split (slice (k .at) end run)) refl (f (q .earlier) (q .plans))
+      where
+        go : (d : Option (List Object)) → split (slice (k .at) end run) ≡ d → Passes own c r (q .earlier) d → record { leaf = 0; size = 0 } ≡ sentOf (sendsObjects own c (runObjects run))
+        go none e x = rw (q .so-far, from-broken run end k (q .inside) e)
+        go (some os) e (x, y) = absurd (true≢false (sym x ∙ z))
 
-    pub planning-enter : {n : Cursor} {stop : ℕ} → stepAt (take end run) k ≡ End → entryAt run end ≡ Into n stop → Planning own c run stop n p
-    planning-enter d e = record { earlier = q .earlier; walked = run-enter run end k (q .earlier) (q .walked) d e; plans = q .plans; small = q .small }
+    -- or are planned too
+    planning-on : r .whole ≡ true → Small (r .planned .filled) → Planning own c run end (record { at = end }) (r .planned)
+    planning-on z s = go (split (slice (k .at) end run)) refl (f (q .earlier) (q .plans))
+      where
+        go : (d : Option (List Object)) → split (slice (k .at) end run) ≡ d → Passes own c r (q .earlier) d → Planning own c run end (record { at = end }) (r .planned)
+        go none e x = absurd (true≢false (sym z ∙ x))
+        go (some os) e (x, y) = record {
+          inside = (omega arith, q .inside .1);
+          earlier = q .earlier ++ os;
+          so-far = q .so-far ∙ ap (behind (q .earlier)) (from-part run end k (q .inside) end os (q .inside .0) (omega arith) e) ∙ more (objectsFrom run end (record { at = end }));
+          plans = y;
+          small = s;
+        }
+          where
+            more : (t : Option (List Object)) → behind (q .earlier) (behind os t) ≡ behind (q .earlier ++ os) t
+            more none = refl
+            more (some t) = ap some (sym (append-assoc (q .earlier) os t))
 
-    pub planning-end : {r : Sent} → stepAt (take end run) k ≡ End → entryAt run end ≡ Nothing
-        → ((own : Own) (c : Neighbour) (os : List Object) → Plans own c p os → r ≡ sentOf (sendsObjects own c (some os))) → r ≡ sentOf (sendsObjects own c (runObjects run))
-    planning-end d e f = f own c (q .earlier) (q .plans) ∙ rw (run-end run end k (q .earlier) (q .walked) d e)
+    module _ (z : r .whole ≡ true) (s : Small (r .planned .filled)) where
+      last : stepAt (take end run) (record { at = end }) ≡ End
+      last = at-end run end (q .inside .1)
 
-    -- an object or an option that is cut short
-    pub planning-short : stepAt (take end run) k ≡ CutShort → record { leaf = 0; size = 0 } ≡ sentOf (sendsObjects own c (runObjects run))
-    planning-short e = rw (run-short run end k (q .earlier) (q .walked) e)
+      pub planning-enter : {n : Cursor} {stop : ℕ} → entryAt run end ≡ Into n stop → Planning own c run stop n (r .planned)
+      planning-enter e =
+          let w = planning-on z s in
+          record { inside = enter-on run end (record { at = end }) e (w .inside) .1; earlier = w .earlier; so-far = w .so-far ∙ ap (behind (w .earlier)) (from-enter run end (record { at = end }) e last); plans = w .plans; small = s }
 
-    pub planning-cut : stepAt (take end run) k ≡ End → entryAt run end ≡ Short → record { leaf = 0; size = 0 } ≡ sentOf (sendsObjects own c (runObjects run))
-    planning-cut d e = rw (run-cut run end k (q .earlier) (q .walked) d e)
+      pub planning-end : {t : Sent} → entryAt run end ≡ Nothing → ((own : Own) (c : Neighbour) (os : List Object) → Plans own c (r .planned) os → t ≡ sentOf (sendsObjects own c (some os)))
+          → t ≡ sentOf (sendsObjects own c (runObjects run))
+      planning-end e g =
+          let w = planning-on z s in
+          g own c (w .earlier) (w .plans) ∙ rw (w .so-far, from-nothing run end (record { at = end }) last e, append-nil (w .earlier))
+
+      -- an option is cut short
+      pub planning-cut : entryAt run end ≡ Short → record { leaf = 0; size = 0 } ≡ sentOf (sendsObjects own c (runObjects run))
+      planning-cut e = rw (planning-on z s .so-far, from-cut run end (record { at = end }) last e)

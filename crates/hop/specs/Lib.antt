@@ -1,2 +1,3 @@
 pub mod Sent
 pub mod Planned
+pub mod Built

@@ -1,22 +1,21 @@
--- Inside the crate: objects by containers, before a byte is written and while they are put.
+-- Inside the crate: objects by containers, before a byte is written.
 use mathlib.Core.Path.{_≡_}
 use Prim.Native.Nat.{ℕ, _*_, _≤_}
-use mathlib.Core.Bool.{false}
+use mathlib.Core.Bool.{true, false}
 use mathlib.Core.List.{List, _++_, map}
-use mathlib.Core.Option.{some}
+use mathlib.Core.Option.{Option, none, some}
 use lib.Dec.{ltb}
 use lib.ListN.{length}
 use Rattle.model.specs.declared.Own.{Own}
 use Rattle.model.specs.declared.Neighbour.{Neighbour}
 use Rattle.model.specs.Number.{firstOf}
 use Rattle.model.specs.Object.{Object, join}
-use Rattle.model.specs.Run.{joinOptions, runObjects}
+use Rattle.model.specs.Run.{joinOptions}
 use Rattle.model.specs.Pack.{packFrom, pack, containerOption, unpackable}
 use Rattle.model.specs.Update.{update, objectLeaf}
-use Rattle.wire.specs.Put.{Put}
 use Rattle.hop.specs.declared.plan.Filled.{Filled}
 use Rattle.hop.specs.declared.plan.Planned.{Planned}
-use Rattle.hop.specs.declared.sending.Place.{Place}
+use Rattle.hop.specs.declared.plan.Passed.{Passed}
 
 -- the bytes of containers
 abbrev pub bytesIn : List (List Object) → List ℕ
@@ -47,20 +46,7 @@ pub record Plans (own : Own) (c : Neighbour) (p : Planned) (es : List Object) : 
   pub leaf : p .leaf ≡ firstOf (objectLeaf own c) es
   pub fills : Fills (p .filled) (update own c es)
 
--- the joined objects of a run are whole, and there is room for them for the next hop
-pub record Fits (own : Own) (c : Neighbour) (run : List ℕ) : Type 0 where
-  pub objects : List Object
-  pub whole : runObjects run ≡ some objects
-  pub packs : unpackable (update own c objects) ≡ false
-
--- containers being put: bytes of the closed ones are in the output, the objects that the open one holds are in the array behind its
--- frame; with the objects still to be put they give the whole
-pub record Builds (output whole : List ℕ) (place : Place) (left array : List ℕ) (rest : List Object) : Type 0 where
-  pub front : List ℕ
-  pub held : List Object
-  pub gives : whole ≡ front ++ bytesIn (packFrom held rest)
-  pub closed : Put output 0 front (place .done) left
-  pub short : length (join held) ≤ 255
-  pub before : List ℕ
-  pub long : length before ≡ 257
-  pub built : Put before 2 (join held) (place .at) array
+-- objects behind those that are planned: they are planned too, or one is cut short
+abbrev pub Passes : Own → Neighbour → Passed → (before : List Object) → (behind : Option (List Object)) → Type 0
+Passes own c r es none = r .whole ≡ false
+Passes own c r es (some os) = (r .whole ≡ true) × Plans own c (r .planned) (es ++ os)

@@ -3,17 +3,18 @@ ghost use mathlib.Core.Path.{_≡_};
 ghost use Prim.Native.Nat.{_≤_};
 ghost use mathlib.Core.List.{List, [], _∷_, _++_};
 ghost use mathlib.Core.Option.{some};
-ghost use lib.ListN.{length};
+ghost use lib.ListN.{length, drop};
 ghost use Rattle.model.specs.declared.Own.{Own};
 ghost use Rattle.model.specs.declared.Neighbour.{Neighbour};
-ghost use Rattle.model.specs.Object.{Object, bytesOf};
+ghost use Rattle.model.specs.Object.{Object, bytesOf, split};
 ghost use Rattle.model.specs.Run.{runObjects};
 ghost use Rattle.wire.specs.Start.{startOf};
 ghost use Rattle.wire.specs.Step.{objectOf};
 ghost use Rattle.hop.specs.Sent.{sendsObjects, sentOf};
-ghost use Rattle.hop.specs.Planned.{Small, Fills, Plans};
+ghost use Rattle.hop.specs.Planned.{Small, Fills, Plans, Passes};
 use model::Neighbour;
 use model::Own;
+use wire::Cursor;
 use wire::Entry;
 use wire::Header;
 use wire::Start;
@@ -37,6 +38,12 @@ pub struct Filled {
 pub struct Planned {
     pub leaf: u8,
     pub filled: Filled,
+}
+
+// What is known behind a container, and whether no object of it is cut short.
+pub struct Passed {
+    pub planned: Planned,
+    pub whole: bool,
 }
 
 // One object of n bytes more.
@@ -97,6 +104,48 @@ fn plan_object(p: Planned, own: Own, neighbour: Neighbour, header: Header, body:
     }
 }
 
+// The objects of a container from a cursor on. Passes have a loop of their own for a container, so that what leads from one container to
+// the next costs an object nothing.
+fn plan_container(
+    p: Planned,
+    own: Own,
+    neighbour: Neighbour,
+    container: &[u8],
+    from: Cursor,
+) -> Passed
+    requires { ⌜ Small (p .filled) ⌝ }
+    ensures { λ r. ⌜ Small (r .planned .filled) ⌝ }
+    ensures planned { λ r. ⌜ ((es : List Object) → Plans own neighbour p es → Passes own neighbour r es (split (drop (from .at) (now (container .entry))))) ⌝ }
+{
+    let mut cursor = from;
+    let mut planned = p;
+    loop {
+        match wire::next(container, cursor) {
+            Step::Found {
+                header,
+                start,
+                end,
+                next,
+            } => {
+                planned = plan_object(planned, own, neighbour, header, &container[start..end]);
+                cursor = next;
+            }
+            Step::CutShort => {
+                return Passed {
+                    planned,
+                    whole: false,
+                };
+            }
+            Step::End => {
+                return Passed {
+                    planned,
+                    whole: true,
+                };
+            }
+        }
+    }
+}
+
 // The answer for all objects of a run.
 fn conclude(p: Planned) -> Sent
     requires { ⌜ Small (p .filled) ⌝ }
@@ -133,32 +182,22 @@ pub(crate) fn plan(own: Own, neighbour: Neighbour, run: &[u8], start: Start) -> 
         },
     };
     loop {
-        let container = &run[..end];
-        match wire::next(container, cursor) {
-            Step::Found {
-                header,
-                start,
-                end: stop,
-                next,
-            } => {
-                p = plan_object(p, own, neighbour, header, &container[start..stop]);
-                cursor = next;
+        let passed = plan_container(p, own, neighbour, &run[..end], cursor);
+        if !passed.whole {
+            return Sent { leaf: 0, size: 0 };
+        }
+        match wire::enter(run, end) {
+            Entry::Into { first, end: behind } => {
+                p = passed.planned;
+                cursor = first;
+                end = behind;
             }
-            Step::CutShort => {
+            Entry::Short => {
                 return Sent { leaf: 0, size: 0 };
             }
-            Step::End => match wire::enter(run, end) {
-                Entry::Into { first, end: behind } => {
-                    cursor = first;
-                    end = behind;
-                }
-                Entry::Short => {
-                    return Sent { leaf: 0, size: 0 };
-                }
-                Entry::Nothing => {
-                    return conclude(p);
-                }
-            },
+            Entry::Nothing => {
+                return conclude(passed.planned);
+            }
         }
     }
 }

@@ -1,28 +1,31 @@
 // The containers for the next hop: each is built in an array of 257 bytes, and copied to the output when it is closed.
 ghost use mathlib.Core.Path.{_≡_};
-ghost use Prim.Native.Nat.{ℕ, _+_, _-_, _≤_};
-ghost use mathlib.Core.List.{List, _∷_};
+ghost use Prim.Native.Nat.{ℕ, _+_, _-_, _≤_, _<_};
+ghost use mathlib.Core.Bool.{false};
+ghost use mathlib.Core.List.{List, _∷_, _++_};
 ghost use mathlib.Core.Option.{some};
 ghost use lib.Dec.{leb};
-ghost use lib.ListN.{length, set, take};
+ghost use lib.ListN.{length, getD, set, take, drop};
 ghost use lib.Seq.{sets};
 ghost use Rattle.model.specs.declared.Own.{Own};
-ghost use Rattle.model.specs.Object.{Object, bytesOf};
+ghost use Rattle.model.specs.Number.{anyOf};
+ghost use Rattle.model.specs.Object.{Object, bytesOf, split, join};
 ghost use Rattle.model.specs.Run.{runObjects};
 ghost use Rattle.model.specs.Update.{update, updateObject};
-ghost use Rattle.model.specs.Pack.{packed};
+ghost use Rattle.model.specs.Pack.{packed, isOverlong};
 ghost use Rattle.model.specs.Choice.{outputOf};
 ghost use Rattle.wire.specs.Start.{startOf};
 ghost use Rattle.wire.specs.Step.{objectOf};
 ghost use Rattle.wire.specs.Put.{Put};
 ghost use Rattle.hop.specs.Sent.{unfit, sends, sentOf};
-ghost use Rattle.hop.specs.Planned.{Fits, Builds};
+ghost use Rattle.hop.specs.Built.{Fits, FitsPart, OpensFor, OpensPart};
 use crate::bodies;
 use crate::bytes;
 use crate::plan;
 use crate::plan::Sent;
 use model::Neighbour;
 use model::Own;
+use wire::Cursor;
 use wire::Entry;
 use wire::Header;
 use wire::Start;
@@ -31,6 +34,18 @@ use wire::Step;
 // Where the next container goes in the output, and the next object in the array.
 pub struct Place {
     pub done: usize,
+    pub at: usize,
+}
+
+// What is put next: where the container is built, and the index of the run up to which objects are put.
+pub struct Part {
+    pub place: Place,
+    pub last: usize,
+}
+
+// What is behind a part: the cursor, and where the next object goes.
+pub struct Behind {
+    pub cursor: Cursor,
     pub at: usize,
 }
 
@@ -56,25 +71,59 @@ fn put_object(
     end
 }
 
-// Whether an object for the next hop has room from an index of the array on; it gains four bytes at most.
+// Puts the objects of a part of a run for the next hop, from a cursor on; answers the places behind them.
+fn put_part(
+    array: &mut [u8],
+    first: usize,
+    own: Own,
+    neighbour: Neighbour,
+    part: &[u8],
+    from: Cursor,
+) -> Behind
+    requires { ⌜ (own .nodetype ≤ 3) × (neighbour .lql ≤ 7) × (neighbour .colour ≤ 1023) ⌝ }
+    requires { ⌜ (from .at ≤ length (now part)) × (length (now array) ≡ 257) ⌝ }
+    requires { ⌜ FitsPart own neighbour (drop (from .at) (now part)) first ⌝ }
+    ensures { λ r. ⌜ ((os : List Object) → split (drop (from .at) (now (part .entry))) ≡ some os → Put (now (array .entry)) first (join (update own neighbour os)) (r .at) (now (array .exit))) ⌝ }
+    ensures reached { λ r. ⌜ r .cursor ≡ record { at = length (now (part .entry)) } ⌝ }
+{
+    let mut cursor = from;
+    let mut at = first;
+    loop {
+        match wire::next(part, cursor) {
+            Step::Found {
+                header,
+                start,
+                end,
+                next,
+            } => {
+                at = put_object(array, at, own, neighbour, header, &part[start..end]);
+                cursor = next;
+            }
+            Step::CutShort => {
+                return Behind { cursor, at };
+            }
+            Step::End => {
+                return Behind { cursor, at };
+            }
+        }
+    }
+}
+
+// Whether an object for the next hop has room from an index of the array on.
 fn has_room(at: usize, neighbour: Neighbour, header: Header, body: &[u8]) -> bool
     requires { ⌜ at ≤ 257 ⌝ }
     ensures { λ r. ⌜ ((own : Own) → r ≡ leb (at + length (bytesOf (updateObject own neighbour (objectOf header (now (body .entry)))))) 257) ⌝ }
 {
-    if at + body.len() <= 249 {
-        return true;
-    }
     at + 4 + body.len() + metric::growth(neighbour, header, body) <= 257
 }
 
-// Copies the container that is built in the array to the output; answers the index behind it.
+// Copies the container that is built in the array, which begins with 2, to the output; answers the index behind it.
 fn flush(out: &mut [u8], done: usize, array: &mut [u8], at: usize) -> usize
     requires { ⌜ (2 ≤ at) × (at ≤ 257) × (length (now array) ≡ 257) ⌝ }
     requires { ⌜ done + at ≤ length (now out) ⌝ }
-    ensures { λ r. ⌜ Put (now (out .entry)) done (take at (set (set (now (array .entry)) 0 2) 1 (at - 2))) r (now (out .exit)) ⌝ }
-    ensures framed { λ r. ⌜ now (array .exit) ≡ set (set (now (array .entry)) 0 2) 1 (at - 2) ⌝ }
+    ensures { λ r. ⌜ Put (now (out .entry)) done (take at (set (now (array .entry)) 1 (at - 2))) r (now (out .exit)) ⌝ }
+    ensures framed { λ r. ⌜ now (array .exit) ≡ set (now (array .entry)) 1 (at - 2) ⌝ }
 {
-    array[0] = 2;
     array[1] = (at - 2) as u8;
     bytes::put_bytes(out, done, &array[..at])
 }
@@ -90,8 +139,7 @@ fn open_for(
 ) -> Place
     requires { ⌜ (2 ≤ place .at) × (place .at ≤ 257) × (length (now array) ≡ 257) ⌝ }
     requires { ⌜ place .done + place .at ≤ length (now out) ⌝ }
-    ensures { λ r. ⌜ ((own : Own) (l whole : List ℕ) (rest : List Object) → length (bytesOf (updateObject own neighbour (objectOf header (now (body .entry))))) ≤ 255 → Builds l whole place (now (out .entry)) (now (array .entry)) (updateObject own neighbour (objectOf header (now (body .entry))) ∷ rest) → Builds l whole r (now (out .exit)) (now (array .exit)) (updateObject own neighbour (objectOf header (now (body .entry))) ∷ rest)) ⌝ }
-    ensures room { λ r. ⌜ ((own : Own) → length (bytesOf (updateObject own neighbour (objectOf header (now (body .entry))))) ≤ 255 → r .at + length (bytesOf (updateObject own neighbour (objectOf header (now (body .entry))))) ≤ 257) ⌝ }
+    ensures { λ r. ⌜ OpensFor neighbour header (now (body .entry)) place (now (out .entry)) (now (array .entry)) r (now (out .exit)) (now (array .exit)) ⌝ }
 {
     if has_room(place.at, neighbour, header, body) {
         return place;
@@ -102,26 +150,50 @@ fn open_for(
     }
 }
 
-// Puts an object for the next hop, in a new container where it would pass 255 bytes.
-fn put_packed(
+// Has room in the array for the part of a container that is put next, from a cursor on: all of it where there is one container; where
+// there are many the object there, for which a new one is opened where it would pass 255 bytes.
+fn open_part(
     out: &mut [u8],
     array: &mut [u8],
     place: Place,
-    own: Own,
     neighbour: Neighbour,
-    header: Header,
-    body: &[u8],
-) -> Place
-    requires { ⌜ (own .nodetype ≤ 3) × (neighbour .lql ≤ 7) × (neighbour .colour ≤ 1023) ⌝ }
+    container: &[u8],
+    cursor: Cursor,
+    many: bool,
+) -> Part
     requires { ⌜ (2 ≤ place .at) × (place .at ≤ 257) × (length (now array) ≡ 257) ⌝ }
     requires { ⌜ place .done + place .at ≤ length (now out) ⌝ }
-    requires { ⌜ length (bytesOf (updateObject own neighbour (objectOf header (now body)))) ≤ 255 ⌝ }
-    ensures { λ r. ⌜ ((l whole : List ℕ) (rest : List Object) → Builds l whole place (now (out .entry)) (now (array .entry)) (updateObject own neighbour (objectOf header (now (body .entry))) ∷ rest) → Builds l whole r (now (out .exit)) (now (array .exit)) rest) ⌝ }
+    requires { ⌜ cursor .at ≤ length (now container) ⌝ }
+    ensures { λ r. ⌜ OpensPart neighbour (now (container .entry)) cursor many place (now (out .entry)) (now (array .entry)) r (now (out .exit)) (now (array .exit)) ⌝ }
+    ensures inside { λ r. ⌜ (cursor .at ≤ r .last) × (r .last ≤ length (now (container .entry))) × ((r .last ≡ length (now (container .entry)) → ⊥) → cursor .at < r .last) ⌝ }
 {
-    let open = open_for(out, array, place, neighbour, header, body);
-    Place {
-        done: open.done,
-        at: put_object(array, open.at, own, neighbour, header, body),
+    if !many {
+        return Part {
+            place,
+            last: container.len(),
+        };
+    }
+    match wire::next(container, cursor) {
+        Step::Found {
+            header,
+            start,
+            end,
+            next: _,
+        } => {
+            let body = &container[start..end];
+            Part {
+                place: open_for(out, array, place, neighbour, header, body),
+                last: end,
+            }
+        }
+        Step::CutShort => Part {
+            place,
+            last: container.len(),
+        },
+        Step::End => Part {
+            place,
+            last: container.len(),
+        },
     }
 }
 
@@ -133,10 +205,11 @@ fn put_objects(
     neighbour: Neighbour,
     run: &[u8],
     start: Start,
+    many: bool,
 )
     requires { ⌜ (own .nodetype ≤ 3) × (neighbour .lql ≤ 7) × (neighbour .colour ≤ 1023) ⌝ }
-    requires { ⌜ (length (now array) ≡ 257) × (2056 ≤ length (now out)) ⌝ }
-    requires { ⌜ Fits own neighbour (now run) ⌝ }
+    requires { ⌜ (length (now array) ≡ 257) × (getD (now array) 0 0 ≡ 2) × (2056 ≤ length (now out)) ⌝ }
+    requires { ⌜ Fits own neighbour (now run) many ⌝ }
     requires { ⌜ start ≡ startOf (now run) ⌝ }
     ensures { λ r. ⌜ ((os : List Object) → runObjects (now (run .entry)) ≡ some os → now (out .exit) ≡ sets (now (out .entry)) 0 (packed (update own neighbour os))) ⌝ }
 {
@@ -144,25 +217,25 @@ fn put_objects(
     let mut end = start.end;
     let mut place = Place { done: 0, at: 2 };
     loop {
-        let container = &run[..end];
-        match wire::next(container, cursor) {
-            Step::Found {
-                header,
-                start,
-                end: stop,
-                next,
-            } => {
-                let body = &container[start..stop];
-                place = put_packed(out, array, place, own, neighbour, header, body);
-                cursor = next;
-            }
-            Step::CutShort => {
-                return;
-            }
-            Step::End => match wire::enter(run, end) {
-                Entry::Into { first, end: behind } => {
+        let part = open_part(out, array, place, neighbour, &run[..end], cursor, many);
+        let behind = put_part(
+            array,
+            part.place.at,
+            own,
+            neighbour,
+            &run[..part.last],
+            cursor,
+        );
+        cursor = behind.cursor;
+        place = Place {
+            done: part.place.done,
+            at: behind.at,
+        };
+        if part.last == end {
+            match wire::enter(run, end) {
+                Entry::Into { first, end: stop } => {
                     cursor = first;
-                    end = behind;
+                    end = stop;
                 }
                 Entry::Short => {
                     return;
@@ -171,7 +244,7 @@ fn put_objects(
                     flush(out, place.done, array, place.at);
                     return;
                 }
-            },
+            }
         }
     }
 }
@@ -198,6 +271,7 @@ pub fn send(own: Own, neighbour: Neighbour, run: &[u8], out: &mut [u8]) -> Sent
         return sent;
     }
     let mut built = [0u8; 257];
-    put_objects(out, &mut built, own, neighbour, run, start);
+    built[0] = 2;
+    put_objects(out, &mut built, own, neighbour, run, start, 257 < sent.size);
     sent
 }

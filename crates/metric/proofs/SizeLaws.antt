@@ -13,8 +13,8 @@ use Rattle.model.specs.declared.Quantity.the-variants.{Known, Unknown}
 use Rattle.model.specs.declared.Own.{Own}
 use Rattle.model.specs.declared.Neighbour.{Neighbour}
 use Rattle.model.specs.Number.{isUnknown, anyOf, bigEndian, number}
-use Rattle.model.specs.Object.{Kind, unknown, lql, colour, node, nsa, ne, hp, scalar, throughput, latency, etx, Role, constraint, recorded, aggregated, kindOf, roleOf, isRecorded}
-use Rattle.model.specs.Constraint.{energyIn, linkValue}
+use Rattle.model.specs.Object.{Kind, unknown, lql, colour, node, scalar, Role, constraint, recorded, aggregated, kindOf, roleOf, isRecorded}
+use Rattle.model.specs.Constraint.{energyIn}
 use Rattle.model.specs.Update.{localValue, valueOr0, onField, combine, widthOf, mostOf, clear0, clear1, combine1, aggregatedBody, constraintBody, subObject, clearEach, ownEnergy, countLevel, countedBody, countColour, colouredBody, recordedBody, nextBody}
 use Rattle.model.proofs.ShapeLaws.{length-onTwo, length-clearEach, length-ownEnergy, length-clearColour}
 use Rattle.metric.specs.Next.{linkOf, countsIn}
@@ -191,46 +191,3 @@ kept own c k aggregated a b e = sym (length-aggregated k a (valueOr0 (localValue
 pub length-kept : {r : Bool} (own : Own) (c : Neighbour) (k : Kind) (f m a : ℕ) (b : List ℕ) → r ≡ isRecorded (roleOf f m) → r ≡ false
     → length b ≡ length (nextBody own c k (roleOf f m) a b)
 length-kept own c k f m a b e t = kept own c k (roleOf f m) a b (sym e ∙ t)
-
--- ---- a body gains four bytes at most
-
-levels-bound : (v : ℕ) (s : List ℕ) → length (countLevel v s) ≤ length s + 4
-levels-bound v s = rw (length-levels v s) (go (anyOf (countsIn v) s))
-  where
-    go : (b : Bool) → length s + cond b 0 1 ≤ length s + 4
-    go true = omega arith
-    go false = omega arith
-
-colours-bound : (v : ℕ) (s : List ℕ) → length (countColour v s) ≤ length s + 4
-colours-bound v [] = omega arith
-colours-bound v (x ∷ []) = omega arith
-colours-bound v (x ∷ y ∷ s) = go (gainsIn v x y) (colours-bound v s)
-  where
-    go : (b : Bool) → length (countColour v s) ≤ length s + 4 → length (cond b (x ∷ (y + 1) ∷ s) (x ∷ y ∷ countColour v s)) ≤ suc (suc (length s)) + 4
-    go true ih = omega arith
-    go false ih = omega arith
-
-sub-bound : (w : ℕ) (q : Quantity) → length (subObject w q) ≤ w
-sub-bound w (Known v) = omega (arith, length-big w v)
-sub-bound w Unknown = omega arith
-
-recorded-bound : (own : Own) (c : Neighbour) (k : Kind) (b : List ℕ) → length (recordedBody own c k b) ≤ length b + 4
-unfolding recordedBody
-recorded-bound own c unknown b = omega arith
-recorded-bound own c lql [] = omega arith
-recorded-bound own c lql (x ∷ s) = omega (arith, levels-bound (c .lql) s)
-recorded-bound own c colour [] = omega arith
-recorded-bound own c colour (x ∷ s) = omega (arith, colours-bound (c .colour) s)
-recorded-bound own c (node nsa) b = omega arith
-recorded-bound own c (node ne) b =
-    let e = energyIn (own .flags) (own .energy) in
-    omega (arith, length-append (clearEach b) (ownEnergy (own .nodetype) e), length-clearEach b, length-ownEnergy (own .nodetype) e)
-recorded-bound own c (node hp) b = omega arith
-recorded-bound own c (scalar throughput) b = omega (arith, length-append (subObject 4 (linkValue c throughput)) b, sub-bound 4 (linkValue c throughput))
-recorded-bound own c (scalar latency) b = omega (arith, length-append b (subObject 4 (linkValue c latency)), sub-bound 4 (linkValue c latency))
-recorded-bound own c (scalar etx) b = omega (arith, length-append b (subObject 2 (linkValue c etx)), sub-bound 2 (linkValue c etx))
-
-pub next-bound : (own : Own) (c : Neighbour) (k : Kind) (r : Role) (a : ℕ) (b : List ℕ) → length (nextBody own c k r a b) ≤ length b + 4
-next-bound own c k constraint a b = omega (arith, length-constraint k b)
-next-bound own c k recorded a b = recorded-bound own c k b
-next-bound own c k aggregated a b = omega (arith, length-aggregated k a (valueOr0 (localValue own c k)) b)

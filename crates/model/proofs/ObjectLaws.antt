@@ -10,7 +10,7 @@ use lib.ListN.{length, take, drop, length-append, take-append-drop, length-drop}
 use lib.Seq.{length-take-le, take-append-seam, drop-append-seam}
 use lib.Dec.{leb}
 use borrow.Author.Tests.{le-leb, leb-true}
-use Rattle.model.specs.Object.{Object, object, before, splitUpTo, split, join}
+use Rattle.model.specs.Object.{Object, object, before, behind, splitUpTo, split, join}
 
 -- what a step of `splitUpTo` says where it gives objects
 step : (n : ℕ) (rest : List ℕ) (o : Object) (r : Option (List Object)) (os : List Object) (b : Bool) → leb n (length rest) ≡ b
@@ -63,11 +63,6 @@ pub join-append : (s t : List Object) → join (s ++ t) ≡ join s ++ join t
 unfolding join
 join-append [] t = refl
 join-append (o ∷ s) t = rw (join-append s t, append-assoc (o .body) (join s) (join t))
-
--- objects before those of a run, if it has its objects whole
-abbrev pub behind : List Object → Option (List Object) → Option (List Object)
-behind s none = none
-behind s (some t) = some (s ++ t)
 
 before-behind : (o : Object) (s : List Object) (r : Option (List Object)) → before o (behind s r) ≡ behind (o ∷ s) r
 before-behind o s none = refl

@@ -50,6 +50,11 @@ abbrev pub before : Object → Option (List Object) → Option (List Object)
 before o none = none
 before o (some os) = some (o ∷ os)
 
+-- objects before those of bytes, if these have theirs whole
+abbrev pub behind : List Object → Option (List Object) → Option (List Object)
+behind s none = none
+behind s (some t) = some (s ++ t)
+
 -- the objects that stand end to end in a run of bytes; none where a header or a body runs past its end. `limit` bounds their number
 unfoldable pub splitUpTo : (limit : ℕ) → List ℕ → Option (List Object)
 splitUpTo zero [] = some []

@@ -1,35 +1,33 @@
--- What was found breaks what was asked: bars 11 to 14, and every bar of which something is told; of no other is anything told.
+-- What was found breaks what was asked: bars 11, 12, 22, 23 and 14, and every bar of which something is told; of no other is anything told.
 use mathlib.Core.Path.{_≡_, refl, sym, ap, _∙_}
-use Prim.Native.Nat.{ℕ, zero, suc, _+_, _-_, _<_}
+use Prim.Native.Nat.{ℕ, zero, suc, _+_, _≤_}
+use native.Mathlib.Nat.{not-suc-le-zero}
 use native.Mathlib.Omega.{arith}
-use mathlib.Core.Bool.{Bool, true, false, cond, not, _&&_, _||_, or-false, or-assoc, false≢true}
+use mathlib.Core.Bool.{Bool, true, false, cond, _&&_, _||_, or-false, or-assoc, false≢true, true≢false}
 use mathlib.Core.List.{List, [], _∷_}
 use mathlib.Core.Option.{Option, none, some}
-use lib.ListN.{length, getD, getElem?, drop}
+use lib.ListN.{length, getElem?, take, drop, length-drop}
 use lib.Dec.{leb, ltb, eqb}
-use borrow.Author.Tests.{leb-false, ltb-true, ltb-false, lt-ltb, le-ltb, eqb-true, eqb-false, eq-eqb, ne-eqb}
+use borrow.Author.Tests.{leb-true, leb-false, lt-ltb, le-ltb, eqb-true, eqb-false}
 use Rattle.model.specs.declared.Own.{Own}
 use Rattle.model.specs.declared.Neighbour.{Neighbour}
 use Rattle.model.specs.declared.Candidate.{Candidate}
 use Rattle.model.specs.declared.Verdict.the-variants.{Barred}
-use Rattle.model.specs.Object.{Object, before, split, standings}
-use Rattle.model.specs.Reading.{misframed, isNone, runsPast, reading, wellFormed}
+use Rattle.model.specs.Object.{Object, object, before, splitUpTo, split, standings}
+use Rattle.model.specs.Reading.{isNone, wellFormed}
+use Rattle.model.specs.Run.{RplOption, pad1, option, leading, optionsUpTo, options, containers, joined, objectsOf, optionsIn, joinedObjects, optionCut, ninthContainer, objectCut, readRun}
 use Rattle.model.specs.Constraint.{summary}
 use Rattle.model.specs.Verdict.{isSecond, outOfRange, siteOutOfRange, badNumbers, runOf, outside, verdict, numberOf}
 use Rattle.model.specs.Conditions.{someHas, objectsIn, objectBars}
 use Rattle.model.specs.Exact.{NoneOf}
 use Rattle.model.proofs.BoolLaws.{neither}
 use Rattle.model.proofs.NumberLaws.{none-parts}
-use Rattle.model.proofs.Readings.{reading-exact}
-use Rattle.model.proofs.ReadingLaws.{reading-objects}
+use Rattle.model.proofs.RunReadings.{run-exact}
+use Rattle.model.proofs.RunLaws.{run-objects}
 use Rattle.model.proofs.Bars.{verdict-exact, bar-exact}
-use Rattle.wire.specs.declared.objects.Cursor.{Cursor}
-use Rattle.wire.specs.declared.objects.Step.{Step}
-use Rattle.wire.specs.declared.objects.Step.the-variants.{Found, CutShort, End}
-use Rattle.wire.specs.Step.{firstCursor, objectAt, stepAt}
-use Rattle.wire.proofs.StepLaws.{left, step-inside, split-found, split-short, split-end}
 use Rattle.reason.specs.declared.findings.Finding.{Finding}
-use Rattle.reason.specs.Finding.{finding, nothing, siteRange, wordRange, rangeFinding, outsideFinding, frameFinding, cutFinding, overrunBy, overrunFrom, overrunFinding, containerFinding, barFinding, findingOf}
+use Rattle.reason.specs.declared.frames.Objects.the-variants.{Short}
+use Rattle.reason.specs.Finding.{finding, nothing, siteRange, wordRange, rangeFinding, outsideFinding, cutOptionFrom, cutOptionFinding, containersFinding, toldFrom, objectsTold, orElse, overrunFrom, overrunFinding, runFinding, barFinding, findingOf}
 use Rattle.reason.specs.Breaks.{breaks, FindingsBreak, NothingElse, holdsOf, FlagsHold}
 use Rattle.reason.proofs.UnmetLaws.{Right, unmet-right}
 
@@ -67,73 +65,79 @@ module _ (own : Own) (c : Neighbour) where
       (upper 6 1023 (c .colour) _ _ refl site-breaks)))))
       ∙ simp or-assoc
 
--- ---- bar 13: the frame
+-- ---- bar 22: the option that is cut short
 
-eqb-turned : (x y : ℕ) → eqb x y ≡ eqb y x
-eqb-turned x y = go (eqb y x) refl
-  where
-    go : (b : Bool) → eqb y x ≡ b → eqb x y ≡ b
-    go true e = eq-eqb x y (sym (eqb-true y x e))
-    go false e = ne-eqb x y (λ q. eqb-false y x e (sym q))
+none-leading : (o : RplOption) (r : Option (List RplOption)) → isNone r ≡ isNone (leading o r)
+none-leading o none = refl
+none-leading o (some os) = refl
 
-frame-breaks : (bs : List ℕ) → breaks (frameFinding bs) ≡ misframed bs
-unfolding breaks frameFinding misframed
-frame-breaks bs = go (ltb (length bs) 2) (eqb (getD bs 0 0) 2) refl refl
+option-breaks : (k : ℕ) (bs : List ℕ) (at : ℕ) → length bs ≤ k → breaks (cutOptionFrom k bs at) ≡ isNone (optionsUpTo k bs)
+unfolding breaks cutOptionFrom optionsUpTo
+option-breaks zero [] at l = refl
+option-breaks zero (b ∷ bs) at l = absurd (not-suc-le-zero l)
+option-breaks (suc k) [] at l = refl
+option-breaks (suc k) (zero ∷ bs) at l = option-breaks k bs (at + 1) (omega arith) ∙ none-leading pad1 (optionsUpTo k bs)
+option-breaks (suc k) (suc t ∷ []) at l = refl
+option-breaks (suc k) (suc t ∷ n ∷ bs) at l = go (leb n (length bs)) refl (option-breaks k (drop n bs) (at + 2 + n) (rw length-drop (omega arith)))
   where
-    go : (a b : Bool) → ltb (length bs) 2 ≡ a → eqb (getD bs 0 0) 2 ≡ b
-        → breaks (cond a (finding 10 0 2 (length bs)) (cond b (finding 12 0 (getD bs 1 0) (length bs - 2)) (finding 11 0 2 (getD bs 0 0))))
-        ≡ a || not b || not (eqb (getD bs 1 0) (length bs - 2))
-    go true b p q = p
-    go false true p q = ap not (eqb-turned (length bs - 2) (getD bs 1 0))
-    go false false p q = ap not q
+    go : (b : Bool) → leb n (length bs) ≡ b → breaks (cutOptionFrom k (drop n bs) (at + 2 + n)) ≡ isNone (optionsUpTo k (drop n bs))
+        → breaks (cond (ltb (length bs) n) (finding 38 at n (length bs)) (cutOptionFrom k (drop n bs) (at + 2 + n)))
+        ≡ isNone (cond b (leading (option t (take n bs)) (optionsUpTo k (drop n bs))) none)
+    go true e ih = rw (le-ltb (length bs) n (leb-true n (length bs) e)) (ih ∙ none-leading (option t (take n bs)) (optionsUpTo k (drop n bs)))
+    go false e ih = let few = lt-ltb (length bs) n (leb-false n (length bs) e) in rw few few
+
+cut-breaks : (bs : List ℕ) → breaks (cutOptionFinding bs) ≡ optionCut bs
+unfolding cutOptionFinding options
+cut-breaks bs = option-breaks (length bs) bs 0 (omega arith)
+
+-- ---- bar 23: the ninth container
+
+containers-break : (bs : List ℕ) → breaks (containersFinding bs) ≡ ninthContainer bs
+unfolding breaks containersFinding
+containers-break bs = refl
 
 -- ---- bar 14: the object that is cut short
 
--- by the three tests of a step
-cut-by : (bs : List ℕ) (at i : ℕ) (a b c : Bool)
-    → leb (length bs) at ≡ a → ltb (length bs) (at + 4) ≡ b → ltb (length bs) (at + 4 + getD bs (at + 3) 0) ≡ c
-    → cond a End (cond b CutShort (cond c CutShort (objectAt bs at (getD bs (at + 3) 0)))) ≡ CutShort
-    → breaks (cutFinding bs at i) ≡ true
-unfolding breaks cutFinding
-cut-by bs at i true b c p q r e = absurd (let z : _≡_ {A = ℕ} 0 1 = cc in omega arith)
-cut-by bs at i false true c p q r e =
-    let l = leb-false (length bs) at p in
-    let m = ltb-true (length bs) (at + 4) q in
-    let few = lt-ltb (length bs - at) 4 (omega arith) in
-    rw (le-ltb (length bs) at (omega arith), few) few
-cut-by bs at i false false true p q r e =
-    let l = ltb-false (length bs) (at + 4) q in
-    let m = ltb-true (length bs) (at + 4 + getD bs (at + 3) 0) r in
-    rw (le-ltb (length bs) at (omega arith), le-ltb (length bs - at) 4 (omega arith))
-    (lt-ltb (length bs - at - 4) (getD bs (at + 3) 0) (omega arith))
-cut-by bs at i false false false p q r e = absurd (let z : _≡_ {A = ℕ} 0 1 = cc in omega arith)
+none-joined : (r : Option (List Object)) → isNone r ≡ isNone (joined (some []) r)
+none-joined none = refl
+none-joined (some os) = refl
 
-cut-breaks : (bs : List ℕ) (p : Cursor) (i : ℕ) → stepAt bs p ≡ CutShort → breaks (cutFinding bs (p .at) i) ≡ true
-unfolding stepAt
-cut-breaks bs p i e = cut-by bs (p .at) i _ _ _ refl refl refl e
+none-before : (o : Object) (s r : Option (List Object)) → isNone (joined s r) ≡ isNone (joined (before o s) r)
+none-before o none r = refl
+none-before o (some os) none = refl
+none-before o (some os) (some ps) = refl
 
--- along the walk, beside the model's objects from a cursor on
-from-breaks : (k : ℕ) (bs : List ℕ) (p : Cursor) (i : ℕ) → left bs p < k
-    → breaks (overrunFrom k bs p i) ≡ isNone (split (drop (p .at) bs))
-unfolding breaks overrunFrom
-from-breaks zero bs p i l = absurd (omega arith)
-from-breaks (suc k) bs p i l = go (stepAt bs p) refl (λ n h. from-breaks k bs n (i + 1) h)
+-- in the data of one container, before others
+object-breaks : (rest : ℕ → Finding) (r : Option (List Object)) → ((j : ℕ) → breaks (rest j) ≡ isNone r)
+    → (k : ℕ) (bs : List ℕ) (i : ℕ) → length bs ≤ k → breaks (orElse rest (toldFrom k bs i)) ≡ isNone (joined (splitUpTo k bs) r)
+unfolding breaks toldFrom splitUpTo
+object-breaks rest r h zero [] i l = h i ∙ none-joined r
+object-breaks rest r h zero (b ∷ bs) i l = absurd (not-suc-le-zero l)
+object-breaks rest r h (suc k) [] i l = h i ∙ none-joined r
+object-breaks rest r h (suc k) (t ∷ []) i l = refl
+object-breaks rest r h (suc k) (t ∷ f ∷ []) i l = refl
+object-breaks rest r h (suc k) (t ∷ f ∷ m ∷ []) i l = refl
+object-breaks rest r h (suc k) (t ∷ f ∷ m ∷ n ∷ bs) i l = go (leb n (length bs)) refl (object-breaks rest r h k (drop n bs) (i + 1) (rw length-drop (omega arith)))
   where
-    none-before : (o : Object) (r : Option (List Object)) → isNone r ≡ isNone (before o r)
-    none-before o none = refl
-    none-before o (some os) = refl
+    go : (b : Bool) → leb n (length bs) ≡ b → breaks (orElse rest (toldFrom k (drop n bs) (i + 1))) ≡ isNone (joined (splitUpTo k (drop n bs)) r)
+        → breaks (orElse rest (cond (ltb (length bs) n) (Short (finding 14 i n (length bs))) (toldFrom k (drop n bs) (i + 1))))
+        ≡ isNone (joined (cond b (before (object t f m (take n bs)) (splitUpTo k (drop n bs))) none) r)
+    go true e ih = rw (le-ltb (length bs) n (leb-true n (length bs) e)) (ih ∙ none-before (object t f m (take n bs)) (splitUpTo k (drop n bs)) r)
+    go false e ih = let few = lt-ltb (length bs) n (leb-false n (length bs) e) in rw few few
 
-    go : (s : Step) → stepAt bs p ≡ s
-        → ((n : Cursor) → left bs n < k → breaks (overrunFrom k bs n (i + 1)) ≡ isNone (split (drop (n .at) bs)))
-        → breaks (overrunBy bs p i (λ n. overrunFrom k bs n (i + 1)) s) ≡ isNone (split (drop (p .at) bs))
-    go (Found h start end n) e ih =
-        ih n (omega (arith, step-inside bs p e)) ∙ rw (split-found bs p e) (none-before _ (split (drop (n .at) bs)))
-    go CutShort e ih = cut-breaks bs p i e ∙ sym (rw (split-short bs p e))
-    go End e ih = sym (rw (split-end bs p e))
+objects-break : (ds : List (List ℕ)) (i : ℕ) → breaks (overrunFrom ds i) ≡ isNone (objectsOf ds)
+unfolding breaks overrunFrom objectsOf objectsTold split
+objects-break [] i = refl
+objects-break (d ∷ ds) i = object-breaks (λ j. overrunFrom ds j) (objectsOf ds) (λ j. objects-break ds j) (length d) d i (omega arith)
 
-overrun-breaks : (bs : List ℕ) → breaks (overrunFinding bs) ≡ runsPast bs
+-- of a run whose options are whole
+overrun-breaks : (bs : List ℕ) → optionCut bs ≡ false → breaks (overrunFinding bs) ≡ objectCut bs
 unfolding overrunFinding
-overrun-breaks bs = from-breaks (suc (length bs)) bs firstCursor 0 (omega arith)
+overrun-breaks bs e = go (options bs) e
+  where
+    go : (r : Option (List RplOption)) → isNone r ≡ false → breaks (overrunFrom (containers (optionsIn r)) 0) ≡ isNone (joinedObjects r)
+    go none e = absurd (true≢false e)
+    go (some os) e = objects-break (containers os) 0
 
 -- ---- each bar of which something is told
 
@@ -158,31 +162,38 @@ module _ (own : Own) (lent : List ℕ) (c : Candidate) where
   unfolding breaks barFinding outsideFinding
   breaks-12 p e = let f = bar-exact own lent c .bar-12 .0 (ap numberOf e) .1 in rw f f
 
-  breaks-13 : Breaks 13
-  unfolding barFinding containerFinding
-  breaks-13 p e = let (f, h) = bar-exact own lent c .bar-13 .0 (ap numberOf e) in rw (inside f) (frame-breaks bs ∙ h)
+  breaks-22 : Breaks 22
+  unfolding barFinding runFinding
+  breaks-22 p e = let (f, h) = bar-exact own lent c .bar-22 .0 (ap numberOf e) in rw (inside f) (cut-breaks bs ∙ h)
+
+  breaks-23 : Breaks 23
+  unfolding barFinding runFinding
+  breaks-23 p e =
+      let (f, h) = bar-exact own lent c .bar-23 .0 (ap numberOf e) in
+      rw (inside (none-parts to12 (optionCut bs ∷ []) f .0)) (containers-break bs ∙ h)
 
   breaks-14 : Breaks 14
-  unfolding barFinding containerFinding
+  unfolding barFinding runFinding
   breaks-14 p e =
       let (f, h) = bar-exact own lent c .bar-14 .0 (ap numberOf e) in
-      rw (inside (none-parts to12 (misframed bs ∷ []) f .0)) (overrun-breaks bs ∙ h)
+      let (x, y) = none-parts to12 (optionCut bs ∷ ninthContainer bs ∷ []) f in
+      rw (inside x) (overrun-breaks bs (neither (optionCut bs) (ninthContainer bs || false) y .0) ∙ h)
 
-  -- the object that bar 19 tells of, by index, among the objects of the container
+  -- the object that bar 19 tells of, by index, among the joined objects of the run
   record At19 (p : ℕ) (os : List Object) : Type 0 where
     object : Object
-    reads : reading bs ≡ wellFormed os
+    reads : readRun bs ≡ wellFormed os
     stands : getElem? os p ≡ some object
     right : Right (c .neighbour) (summary os) (object .body) (barFinding own c 19 p lent)
 
   at-19 : (p : ℕ) → verdict own lent c ≡ Barred 19 p → At19 p (objectsIn bs)
-  unfolding barFinding containerFinding
+  unfolding barFinding runFinding
   at-19 p e =
       let (f, w) = verdict-exact own lent c .verdict-19 p .0 e in
       let os = objectsIn bs in
-      let (x, y) = none-parts to12 (misframed bs ∷ runsPast bs ∷ someHas objectBars (standings [] os) ∷ []) f in
-      let r : reading bs ≡ wellFormed os = reading-exact bs .well-formed os .1 (y, refl) in
-      let u = unmet-right (c .neighbour) os p (w .element) (reading-objects bs os r .noBar) (w .stands) (w .has .1) in
+      let (x, y) = none-parts to12 (optionCut bs ∷ ninthContainer bs ∷ objectCut bs ∷ someHas objectBars (standings [] os) ∷ []) f in
+      let r : readRun bs ≡ wellFormed os = run-exact bs .well-formed os .1 (y, refl) in
+      let u = unmet-right (c .neighbour) os p (w .element) (run-objects bs os r .noBar) (w .stands) (w .has .1) in
       record { object = w .element; reads = r; stands = w .stands; right = rw (inside x, r) u }
 
   breaks-19 : Breaks 19
@@ -200,15 +211,16 @@ pub findings-break : FindingsBreak
 unfolding findingOf
 findings-break own lent c n p e t =
     let one = one-of (Breaks own lent c) n in
-    let from-19 = one 19 false (breaks-19 own lent c) (λ z. absurd (false≢true z)) in
+    let from-23 = one 23 false (breaks-23 own lent c) (λ z. absurd (false≢true z)) in
+    let from-22 = one 22 _ (breaks-22 own lent c) from-23 in
+    let from-19 = one 19 _ (breaks-19 own lent c) from-22 in
     let from-14 = one 14 _ (breaks-14 own lent c) from-19 in
-    let from-13 = one 13 _ (breaks-13 own lent c) from-14 in
-    let from-12 = one 12 _ (breaks-12 own lent c) from-13 in
+    let from-12 = one 12 _ (breaks-12 own lent c) from-14 in
     rw e (one 11 _ (breaks-11 own lent c) from-12 t p e)
 
 -- ---- any other verdict
 
--- by another number than 11 and 12: the container is inside the lent bytes
+-- by another number than 11 and 12: the run is inside the lent bytes
 past-12 : (own : Own) (lent : List ℕ) (c : Candidate) (n p : ℕ) → verdict own lent c ≡ Barred n p → eqb n 11 ≡ false
     → eqb n 12 ≡ false → outside lent c ≡ false
 past-12 own lent c n p e x y = go (badNumbers own (c .neighbour)) (outside lent c) refl refl
@@ -219,16 +231,17 @@ past-12 own lent c n p e x y = go (badNumbers own (c .neighbour)) (outside lent 
     go false true f g = absurd (eqb-false n 12 y (let v = verdict-exact own lent c .verdict-12 .1 (rw f, g) in cc))
 
 pub nothing-else : NothingElse
-unfolding findingOf barFinding containerFinding
+unfolding findingOf barFinding runFinding
 nothing-else own lent c = (
   λ r e. rw e,
   λ n p e t.
       let (a, t) = neither (eqb n 11) _ t in
       let (b, t) = neither (eqb n 12) _ t in
-      let (d, t) = neither (eqb n 13) _ t in
-      let (f, t) = neither (eqb n 14) _ t in
-      let (g, t) = neither (eqb n 19) false t in
-      rw (e, a, past-12 own lent c n p e a b, d, f, g),
+      let (d, t) = neither (eqb n 14) _ t in
+      let (f, t) = neither (eqb n 19) _ t in
+      let (g, t) = neither (eqb n 22) _ t in
+      let (h, t) = neither (eqb n 23) false t in
+      rw (e, a, past-12 own lent c n p e a b, g, h, d, f),
 )
 
 -- ---- bar 19: a flag, or something that is not known

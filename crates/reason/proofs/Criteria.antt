@@ -161,7 +161,7 @@ module _ (own : Own) (cs : List Candidate) (lent : List ℕ) (p b k v a : ℕ) (
 
 pub beaten-on : BeatenOn
 beaten-on own cs lent p b k v a e c d s t =
-    let out : List ℕ = replicate 257 0 in
+    let out : List ℕ = replicate 2056 0 in
     let (c′, s′, r) = true-reason own cs lent out p (asked own cs lent p b k v a e) (omega arith) in
     let y = subst (λ (x : Candidate). Beaten own cs lent p x b k v a) (same-at cs p c′ c s′ s) (r .is-beaten b k v a .0 e .1) in
     on-criterion own cs lent p b k v a e c y d t

@@ -1,3 +1,5 @@
+pub mod OptionLaws
+pub mod OverrunLaws
 pub mod WalkLaws
 pub mod BarLaws
 pub mod WhyLaws

@@ -275,16 +275,16 @@ module _ (own : Own) (cs : List Candidate) (lent : List ℕ) (p : ℕ) (c : Cand
       go false x = told-beaten s e b r f (eqb-false b p x)
 
 -- a question that is not refused, with room for an output, is about a call that is not refused
-call-taken : (own : Own) (n m p : ℕ) → whyRefusal own n p ≡ 0 → 257 ≤ m → refusal own n m ≡ 0
+call-taken : (own : Own) (n m p : ℕ) → whyRefusal own n p ≡ 0 → 2056 ≤ m → refusal own n m ≡ 0
 unfolding whyRefusal refusal
 call-taken own n m p z l = go (badOwn own) (tooMany n) (currentPast own n) (badEdition own) (leb n p) z
   where
-    go : (a b c d e : Bool) → firstCase (1 when a ∷ 2 when b ∷ 3 when c ∷ 5 when d ∷ 6 when e ∷ []) ≡ 0 → firstCase (1 when a ∷ 2 when b ∷ 3 when c ∷ 4 when ltb m 257 ∷ 5 when d ∷ []) ≡ 0
+    go : (a b c d e : Bool) → firstCase (1 when a ∷ 2 when b ∷ 3 when c ∷ 5 when d ∷ 6 when e ∷ []) ≡ 0 → firstCase (1 when a ∷ 2 when b ∷ 3 when c ∷ 4 when ltb m 2056 ∷ 5 when d ∷ []) ≡ 0
     go true b c d e z = absurd (omega arith)
     go false true c d e z = absurd (omega arith)
     go false false true d e z = absurd (omega arith)
     go false false false true e z = absurd (omega arith)
-    go false false false false e z = rw (le-ltb m 257 l)
+    go false false false false e z = rw (le-ltb m 2056 l)
 
 reason-true : (own : Own) (cs : List Candidate) (lent out : List ℕ) (p : ℕ) (c : Candidate) → getElem? cs p ≡ some c → length cs ≤ 16 → whyRefusal own (length cs) p ≡ 0
     → call own cs lent out .answer .refusal ≡ 0 → ReasonTrue own cs lent out p c (why own cs lent p)

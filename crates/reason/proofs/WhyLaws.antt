@@ -37,17 +37,17 @@ by-call false false false true e = refl
 by-call false false false false e = refl
 
 module _ (own : Own) (n p : ℕ) where
-  refusal-by-call : whyRefusal own n p ≡ cond (eqb (refusal own n 257) 0) (cond (leb n p) 6 0) (refusal own n 257)
+  refusal-by-call : whyRefusal own n p ≡ cond (eqb (refusal own n 2056) 0) (cond (leb n p) 6 0) (refusal own n 2056)
   unfolding whyRefusal refusal
   refusal-by-call = by-call (badOwn own) (tooMany n) (currentPast own n) (badEdition own) (leb n p)
 
-  pub refused-call : {k : ℕ} → k ≡ refusal own n 257 → (k ≡ 0 → ⊥) → k ≡ whyRefusal own n p
+  pub refused-call : {k : ℕ} → k ≡ refusal own n 2056 → (k ≡ 0 → ⊥) → k ≡ whyRefusal own n p
   refused-call {k} e h = rw (refusal-by-call, ← e, ne-eqb k 0 h)
 
-  pub refused-position : {k : ℕ} → k ≡ refusal own n 257 → k ≡ 0 → n ≤ p → 6 ≡ whyRefusal own n p
+  pub refused-position : {k : ℕ} → k ≡ refusal own n 2056 → k ≡ 0 → n ≤ p → 6 ≡ whyRefusal own n p
   refused-position {k} e z l = rw (refusal-by-call, ← e, eq-eqb k 0 z, le-leb n p l)
 
-  pub refused-nothing : {k : ℕ} → k ≡ refusal own n 257 → k ≡ 0 → p < n → 0 ≡ whyRefusal own n p
+  pub refused-nothing : {k : ℕ} → k ≡ refusal own n 2056 → k ≡ 0 → p < n → 0 ≡ whyRefusal own n p
   refused-nothing {k} e z l = rw (refusal-by-call, ← e, eq-eqb k 0 z, lt-leb n p l)
 
   -- a question that is not refused: few candidates, and the position among them

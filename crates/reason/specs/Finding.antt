@@ -1,9 +1,9 @@
--- What was asked of a candidate that is barred by 11 to 14 or 19, and what was found. The ways are numbered in crates/reason/src/findings.rt.
+-- What was asked of a candidate that is barred by 11, 12, 14, 19, 22 or 23, and what was found. The ways are numbered in crates/reason/src/findings.rt.
 use Prim.Native.Nat.{ℕ, zero, suc, _+_, _-_, _/_, _%_}
 use mathlib.Core.Bool.{cond, not, _&&_, _||_}
-use mathlib.Core.List.{List}
+use mathlib.Core.List.{List, [], _∷_}
 use mathlib.Core.Option.{Option, none, some}
-use lib.ListN.{length, getD, getElem?}
+use lib.ListN.{length, drop, getD, getElem?}
 use lib.Dec.{ltb, eqb}
 use Rattle.model.specs.declared.Quantity.{Quantity}
 use Rattle.model.specs.declared.Quantity.the-variants.{Known, Unknown}
@@ -15,15 +15,14 @@ use Rattle.model.specs.declared.Verdict.{Verdict}
 use Rattle.model.specs.declared.Verdict.the-variants.{Unbarred, Barred}
 use Rattle.model.specs.Number.{isSet}
 use Rattle.model.specs.Object.{Object}
-use Rattle.model.specs.Reading.{Reading, refused, wellFormed, reading}
+use Rattle.model.specs.Reading.{Reading, refused, wellFormed}
+use Rattle.model.specs.Run.{containersIn, readRun}
 use Rattle.model.specs.Constraint.{isAggregator, summary, colourIn}
 use Rattle.model.specs.Verdict.{isSecond, runOf, outside, verdict}
-use Rattle.wire.specs.declared.objects.Cursor.{Cursor}
-use Rattle.wire.specs.declared.objects.Step.{Step}
-use Rattle.wire.specs.declared.objects.Step.the-variants.{Found, CutShort, End}
-use Rattle.wire.specs.Step.{firstCursor, stepAt}
 use Rattle.wire.specs.Number.{numberIn}
 use Rattle.reason.specs.declared.findings.Finding.{Finding}
+use Rattle.reason.specs.declared.frames.Objects.{Objects}
+use Rattle.reason.specs.declared.frames.Objects.the-variants.{Short, All}
 
 -- a way and its numbers
 abbrev pub finding : (way which asked found : ℕ) → Finding
@@ -53,37 +52,58 @@ rangeFinding own c =
     (cond (ltb 3 (c .nodetype)) (finding 5 0 3 (c .nodetype))
     (wordRange own c)))))
 
--- ---- bars 12 to 14: what runs past what
+-- ---- bar 12: start and size of the run, and how many bytes are lent
 
--- start and size of the container, and how many bytes are lent
 unfoldable pub outsideFinding : Candidate → (lent : ℕ) → Finding
 outsideFinding c n = finding 9 (c .start) (c .size) n
 
--- under 2 bytes; byte 0; the data length that byte 1 says, and the one that is there
-unfoldable pub frameFinding : List ℕ → Finding
-frameFinding bs = cond (ltb (length bs) 2) (finding 10 0 2 (length bs)) (cond (eqb (getD bs 0 0) 2) (finding 12 0 (getD bs 1 0) (length bs - 2)) (finding 11 0 2 (getD bs 0 0)))
+-- ---- bars 22 and 23: the options of a run
 
--- an object that is cut short, by where it begins and its index: its header of four bytes, or the body that its header says
-unfoldable pub cutFinding : List ℕ → (at index : ℕ) → Finding
-cutFinding bs at i =
-    cond (ltb (length bs) at) nothing
-    (cond (ltb (length bs - at) 4) (finding 13 i 4 (length bs - at))
-    (finding 14 i (getD bs (at + 3) 0) (length bs - at - 4)))
+-- the option that is cut short, from one on that begins at an index of the run: a type byte alone, or too little data. `limit` bounds their number
+unfoldable pub cutOptionFrom : (limit : ℕ) → List ℕ → (at : ℕ) → Finding
+cutOptionFrom zero bs at = nothing
+cutOptionFrom (suc k) [] at = nothing
+cutOptionFrom (suc k) (zero ∷ bs) at = cutOptionFrom k bs (at + 1)
+cutOptionFrom (suc k) (suc t ∷ []) at = finding 37 at 2 1
+cutOptionFrom (suc k) (suc t ∷ n ∷ bs) at = cond (ltb (length bs) n) (finding 38 at n (length bs)) (cutOptionFrom k (drop n bs) (at + 2 + n))
 
--- an object more that is whole; one that is cut short; or the end
-abbrev pub overrunBy : List ℕ → Cursor → (index : ℕ) → (rest : Cursor → Finding) → Step → Finding
-overrunBy bs p i rest (Found h start end n) = rest n
-overrunBy bs p i rest CutShort = cutFinding bs (p .at) i
-overrunBy bs p i rest End = nothing
+-- of a run, which has no more options than bytes
+unfoldable pub cutOptionFinding : List ℕ → Finding
+cutOptionFinding bs = cutOptionFrom (length bs) bs 0
 
--- the object that is cut short, from one on that has an index; `limit` bounds their number
-unfoldable pub overrunFrom : (limit : ℕ) → List ℕ → Cursor → (index : ℕ) → Finding
-overrunFrom zero bs p i = nothing
-overrunFrom (suc k) bs p i = overrunBy bs p i (λ n. overrunFrom k bs n (i + 1)) (stepAt bs p)
+-- eight containers at most, and how many there are
+unfoldable pub containersFinding : List ℕ → Finding
+containersFinding bs = finding 39 0 8 (length (containersIn bs))
+
+-- ---- bar 14: the object that is cut short
+
+-- in the data of a container, from an object on that has an index: its header of four bytes, or the body that its header says; where all are
+-- whole, the index behind them. `limit` bounds their number
+unfoldable pub toldFrom : (limit : ℕ) → List ℕ → (index : ℕ) → Objects
+toldFrom zero bs i = All i
+toldFrom (suc k) [] i = All i
+toldFrom (suc k) (t ∷ []) i = Short (finding 13 i 4 1)
+toldFrom (suc k) (t ∷ f ∷ []) i = Short (finding 13 i 4 2)
+toldFrom (suc k) (t ∷ f ∷ m ∷ []) i = Short (finding 13 i 4 3)
+toldFrom (suc k) (t ∷ f ∷ m ∷ n ∷ bs) i = cond (ltb (length bs) n) (Short (finding 14 i n (length bs))) (toldFrom k (drop n bs) (i + 1))
 
 -- of a container, which has no more objects than bytes
+unfoldable pub objectsTold : List ℕ → (index : ℕ) → Objects
+objectsTold bs i = toldFrom (length bs) bs i
+
+-- what is told of one object, or else of those behind
+abbrev pub orElse : (rest : ℕ → Finding) → Objects → Finding
+orElse rest (Short f) = f
+orElse rest (All i) = rest i
+
+-- in containers one after another
+unfoldable pub overrunFrom : List (List ℕ) → (index : ℕ) → Finding
+overrunFrom [] i = nothing
+overrunFrom (d ∷ ds) i = orElse (λ j. overrunFrom ds j) (objectsTold d i)
+
+-- of a run
 unfoldable pub overrunFinding : List ℕ → Finding
-overrunFinding bs = overrunFrom (suc (length bs)) bs firstCursor 0
+overrunFinding bs = overrunFrom (containersIn bs) 0
 
 -- ---- bar 19: what a constraint asks, and what the neighbour, the link or the path has
 
@@ -102,7 +122,7 @@ neFinding c f limit =
     (cond (eqb (c .nodetype) (f / 2 % 4)) (energyFinding c 18 19 (f / 2 % 4) limit) (finding 17 0 (f / 2 % 4) (c .nodetype)))
     (cond (isSet (f % 2)) (energyFinding c 21 22 (f / 2 % 4) limit) (finding 20 0 (f / 2 % 4) (c .nodetype)))
 
--- HP: the count of the container's HP metric
+-- HP: the count of the run's HP metric
 abbrev pub hopsFinding : Quantity → (limit : ℕ) → Finding
 hopsFinding (Known v) limit = finding 23 0 limit v
 hopsFinding Unknown limit = finding 24 0 limit 0
@@ -140,26 +160,31 @@ askedWith c h l x t b =
     (cond (eqb t 8) (colourFinding c (getD b 1 0) (getD b 2 0))
     nothing)))))))
 
--- the object of an index, if there is one, by what its container tells
+-- the object of an index, if there is one, by what its run tells
 abbrev pub objectFinding : Neighbour → Summary → Option Object → Finding
 objectFinding c s none = nothing
 objectFinding c s (some o) = askedWith c (hopsFinding (s .hops) (getD (o .body) 1 0)) (s .latency) (s .etx) (o .type) (o .body)
 
--- the object of an index in a container that is read
+-- the object of an index in a run that is read
 abbrev pub unmetFinding : Neighbour → Reading → (place : ℕ) → Finding
 unmetFinding c (refused n i) p = nothing
 unmetFinding c (wellFormed os) p = objectFinding c (summary os) (getElem? os p)
 
 -- ---- by the bar
 
--- bars 13, 14 and 19, by the container
-unfoldable pub containerFinding : Neighbour → (number place : ℕ) → List ℕ → Finding
-containerFinding c n p bs = cond (eqb n 13) (frameFinding bs) (cond (eqb n 14) (overrunFinding bs) (cond (eqb n 19) (unmetFinding c (reading bs) p) nothing))
+-- bars 14, 19, 22 and 23, by the run
+unfoldable pub runFinding : Neighbour → (number place : ℕ) → List ℕ → Finding
+runFinding c n p bs =
+    cond (eqb n 22) (cutOptionFinding bs)
+    (cond (eqb n 23) (containersFinding bs)
+    (cond (eqb n 14) (overrunFinding bs)
+    (cond (eqb n 19) (unmetFinding c (readRun bs) p)
+    nothing)))
 
 -- bar 11, then 12, then those
 unfoldable pub barFinding : Own → Candidate → (number place : ℕ) → (lent : List ℕ) → Finding
 barFinding own c n p lent =
-    cond (eqb n 11) (rangeFinding own (c .neighbour)) (cond (outside lent c) (outsideFinding c (length lent)) (containerFinding (c .neighbour) n p (runOf lent c)))
+    cond (eqb n 11) (rangeFinding own (c .neighbour)) (cond (outside lent c) (outsideFinding c (length lent)) (runFinding (c .neighbour) n p (runOf lent c)))
 
 -- by the verdict
 abbrev pub verdictFinding : Own → Candidate → (lent : List ℕ) → Verdict → Finding

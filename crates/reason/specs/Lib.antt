@@ -1,5 +1,5 @@
-pub mod Objects
 pub mod Finding
+pub mod Options
 pub mod Why
 pub mod Breaks
 pub mod TrueReason

@@ -4,9 +4,10 @@ use mathlib.Core.List.{List, [], _∷_, _++_, map}
 use lib.ListN.{replicate}
 use Rattle.model.specs.declared.Own.{Own}
 use Rattle.model.specs.declared.Neighbour.{Neighbour}
-use Rattle.model.specs.Samples.{Example, _gives_, Holds, own0, ownAs, ownIn, ownLimits, ranked, neighbour0, nodeOf, etxOf, latencyOf, throughputOf, lqlOf, plain, colourOf, sited, empty, one, candidate, Calling, calling, single, hop}
+use Rattle.model.specs.Samples.{Example, _gives_, Holds, own0, ownAs, ownIn, ownLimits, ranked, neighbour0, nodeOf, etxOf, latencyOf, throughputOf, lqlOf, plain, colourOf, sited, holding, empty, one, candidate, Calling, calling, single, hop}
 use Rattle.model.specs.Boundaries.Choices.{at, among}
 use Rattle.model.specs.Boundaries.Editions.{with}
+use Rattle.model.specs.Boundaries.Runs.{run, times, filler}
 use Rattle.reason.specs.declared.findings.Finding.{Finding}
 use Rattle.reason.specs.declared.reasons.Reason.{Reason}
 use Rattle.reason.specs.Why.{reasonOf, why}
@@ -71,13 +72,16 @@ kinds =
     ∷ among own0 (at 65535 ∷ candidate (ranked 100 1 0 0) 0 2 ∷ []) ask 0 gives barred 20 65535
     ∷ among own0 (at 65535 ∷ candidate (ranked 100 1 0 0) 0 2 ∷ []) ask 1 gives barred 11 65535
     ∷ among own0 (at 300 ∷ candidate (ranked 0 1 1 0) 1 2 ∷ []) ask 1 gives barred 12 65535
-    ∷ among own0 (at 300 ∷ candidate (ranked 0 1 1 0) 0 1 ∷ []) ask 1 gives barred 13 65535
+    ∷ among own0 (at 300 ∷ candidate (ranked 0 1 1 0) 0 1 ∷ []) ask 1 gives barred 22 65535
+    ∷ run (times 9 empty) ask 0 gives barred 23 65535
+    ∷ run (times 8 empty) ask 0 gives chosen
     ∷ hop own0 neighbour0 (0x07 ∷ []) ask 0 gives barred 14 65535
     ∷ hop own0 neighbour0 (one 0xC8 0x00 0x80 [] ++ one 0x07 0x00 0x00 (0x01 ∷ [])) ask 0 gives barred 15 1
     ∷ hop own0 neighbour0 (one 0x07 0x00 0x00 (0x01 ∷ 0x00 ∷ []) ++ one 0x07 0x00 0x00 (0x01 ∷ 0x00 ∷ [])) ask 0 gives barred 16 1
     ∷ hop own0 neighbour0 (one 0x01 0x00 0x80 (0x00 ∷ 0x00 ∷ [])) ask 0 gives barred 17 0
     ∷ hop own0 neighbour0 (one 0xC8 0x00 0x80 [] ++ one 0x09 0x03 0x00 [] ++ one 0x09 0x02 0x00 []) ask 0 gives barred 18 2
     ∷ hop own0 neighbour0 (one 0xC8 0x00 0x80 [] ++ one 0x06 0x02 0x00 (0x00 ∷ 0xE0 ∷ [])) ask 0 gives barred 19 1
+    ∷ run (holding (filler 0) ++ 0x00 ∷ holding (filler 1 ++ one 0x06 0x02 0x00 (0x00 ∷ 0xE0 ∷ []))) ask 0 gives barred 19 2
     ∷ among (ownLimits 256 768 1024) (candidate (ranked 1537 1 1 0) 0 2 ∷ []) ask 0 gives barred 21 65535
     ∷ []
 
@@ -112,6 +116,10 @@ foundIn w = map (λ c. findingOf (w .own) c (w .lent)) (w .candidates)
 abbrev pub alone : Own → Neighbour → Calling
 alone own c = single own c empty
 
+-- a mandatory constraint of a type
+abbrev pub rule : (type : ℕ) → (body : List ℕ) → List ℕ
+rule t b = one t 0x02 0x00 b
+
 -- bar 11: each number at both ends of its range and beyond, the first of several; order and preference in edition 2 alone
 abbrev pub ranges : List (Example Calling (List Finding))
 ranges =
@@ -141,19 +149,15 @@ ranges =
     ∷ alone own0 (sited 8 0x00 8 256) gives (nothing ∷ [])
     ∷ []
 
--- bars 12 to 14: what runs past what
+-- bar 12, and bar 14 in one container
 abbrev pub frames : List (Example Calling (List Finding))
 frames =
-    calling own0 (candidate neighbour0 1 2 ∷ candidate neighbour0 3 0 ∷ candidate neighbour0 2 0 ∷ []) empty gives (finding 9 1 2 2 ∷ finding 9 3 0 2 ∷ finding 10 0 2 0 ∷ [])
-    ∷ single own0 neighbour0 (0x02 ∷ []) gives (finding 10 0 2 1 ∷ [])
-    ∷ single own0 neighbour0 (0x03 ∷ 0x01 ∷ []) gives (finding 11 0 2 3 ∷ [])
-    ∷ single own0 neighbour0 (0x07 ∷ 0x00 ∷ []) gives (finding 11 0 2 7 ∷ [])
-    ∷ single own0 neighbour0 (0x02 ∷ 0x01 ∷ []) gives (finding 12 0 1 0 ∷ [])
-    ∷ single own0 neighbour0 (0x02 ∷ 0x0D ∷ 0x07 ∷ 0x00 ∷ 0x00 ∷ 0x02 ∷ 0x01 ∷ 0x00 ∷ []) gives (finding 12 0 13 6 ∷ [])
+    calling own0 (candidate neighbour0 1 2 ∷ candidate neighbour0 3 0 ∷ candidate neighbour0 2 0 ∷ []) empty gives (finding 9 1 2 2 ∷ finding 9 3 0 2 ∷ nothing ∷ [])
     ∷ hop own0 neighbour0 (0x07 ∷ []) gives (finding 13 0 4 1 ∷ [])
     ∷ hop own0 neighbour0 (one 0xC8 0x00 0x80 (0x01 ∷ []) ++ (0x07 ∷ 0x00 ∷ 0x00 ∷ [])) gives (finding 13 1 4 3 ∷ [])
     ∷ hop own0 neighbour0 (one 0xC8 0x00 0x80 [] ++ one 0xC8 0x00 0x80 [] ++ (0x07 ∷ 0x00 ∷ 0x00 ∷ 0x0D ∷ 0x01 ∷ 0x02 ∷ [])) gives (finding 14 2 13 2 ∷ [])
     ∷ hop own0 neighbour0 (0x07 ∷ 0x00 ∷ 0x00 ∷ 0x01 ∷ []) gives (finding 14 0 1 0 ∷ [])
+    ∷ hop own0 neighbour0 (filler 1 ++ 0xC8 ∷ 0x00 ∷ 0x80 ∷ 0xFF ∷ replicate 246 0x00) gives (finding 14 1 255 246 ∷ [])
     -- 15 to 18, 20 and unbarred: nothing
     ∷ hop own0 neighbour0 (one 0x07 0x00 0x00 (0x01 ∷ [])) gives (nothing ∷ [])
     ∷ hop own0 neighbour0 (one 0x09 0x02 0x00 []) gives (nothing ∷ [])
@@ -161,9 +165,76 @@ frames =
     ∷ single own0 neighbour0 empty gives (nothing ∷ [])
     ∷ []
 
--- a mandatory constraint of a type, alone in its container
-abbrev pub rule : (type : ℕ) → (body : List ℕ) → List ℕ
-rule t b = one t 0x02 0x00 b
+-- bar 22: the option that is cut short, by its index in the run
+abbrev pub cuts : List (Example Calling (List Finding))
+cuts =
+    -- a type byte alone, whatever the type but Pad1; at the start, behind Pad1, behind an empty container
+    run (0x02 ∷ []) gives (finding 37 0 2 1 ∷ [])
+    ∷ run (0x01 ∷ []) gives (finding 37 0 2 1 ∷ [])
+    ∷ run (0xFF ∷ []) gives (finding 37 0 2 1 ∷ [])
+    ∷ run (0x00 ∷ []) gives (nothing ∷ [])
+    ∷ run [] gives (nothing ∷ [])
+    ∷ run (0x00 ∷ 0x00 ∷ 0x07 ∷ []) gives (finding 37 2 2 1 ∷ [])
+    ∷ run (empty ++ (0x03 ∷ [])) gives (finding 37 2 2 1 ∷ [])
+    ∷ run (empty ++ (0x00 ∷ [])) gives (nothing ∷ [])
+    ∷ run (0x03 ∷ 0x00 ∷ []) gives (nothing ∷ [])
+    -- too little data, by one and by all; the rest of one that is long
+    ∷ run (0x02 ∷ 0x01 ∷ []) gives (finding 38 0 1 0 ∷ [])
+    ∷ run (0x07 ∷ 0x02 ∷ 0x02 ∷ []) gives (finding 38 0 2 1 ∷ [])
+    ∷ run (0x07 ∷ 0x02 ∷ 0x02 ∷ 0x09 ∷ []) gives (nothing ∷ [])
+    ∷ run (0x02 ∷ 0x0D ∷ 0x07 ∷ 0x00 ∷ 0x00 ∷ 0x02 ∷ 0x01 ∷ 0x00 ∷ []) gives (finding 38 0 13 6 ∷ [])
+    ∷ run (0x05 ∷ 0xFF ∷ []) gives (finding 38 0 255 0 ∷ [])
+    ∷ run (0x05 ∷ 0xFF ∷ replicate 254 0xAA) gives (finding 38 0 255 254 ∷ [])
+    ∷ run (0x05 ∷ 0xFF ∷ replicate 255 0xAA) gives (nothing ∷ [])
+    -- behind pads, other options and containers with data, whose bytes are not looked at
+    ∷ run (0x01 ∷ 0x02 ∷ 0x02 ∷ 0x09 ∷ 0x02 ∷ 0x01 ∷ []) gives (finding 38 4 1 0 ∷ [])
+    ∷ run (0x00 ∷ 0x01 ∷ 0x01 ∷ 0x00 ∷ holding (filler 3) ++ 0x09 ∷ 0x00 ∷ 0x02 ∷ 0x06 ∷ 0xC8 ∷ 0x00 ∷ []) gives (finding 38 15 6 2 ∷ [])
+    ∷ run (replicate 300 0x00 ++ (0x02 ∷ 0x03 ∷ 0xAA ∷ [])) gives (finding 38 300 3 1 ∷ [])
+    ∷ run (replicate 300 0x00 ++ (0x02 ∷ [])) gives (finding 37 300 2 1 ∷ [])
+    -- before 23, 14, 15 and 19
+    ∷ run (times 9 empty ++ (0x02 ∷ [])) gives (finding 37 18 2 1 ∷ [])
+    ∷ run (holding (0x07 ∷ []) ++ (0x03 ∷ 0x02 ∷ [])) gives (finding 38 3 2 0 ∷ [])
+    ∷ run (holding (one 0x07 0x00 0x00 (0x01 ∷ [])) ++ (0x03 ∷ [])) gives (finding 37 7 2 1 ∷ [])
+    ∷ run (holding (rule 3 (0x00 ∷ 200 ∷ [])) ++ (0x03 ∷ 0x01 ∷ [])) gives (finding 38 8 1 0 ∷ [])
+    ∷ []
+
+-- bar 23: how many containers there are
+abbrev pub ninths : List (Example Calling (List Finding))
+ninths =
+    run (times 8 empty) gives (nothing ∷ [])
+    ∷ run (times 9 empty) gives (finding 39 0 8 9 ∷ [])
+    ∷ run (times 10 (holding (filler 1))) gives (finding 39 0 8 10 ∷ [])
+    ∷ run (times 200 empty) gives (finding 39 0 8 200 ∷ [])
+    -- other options don't count; empty containers do
+    ∷ run (times 8 (empty ++ 0x00 ∷ 0x01 ∷ 0x01 ∷ 0x02 ∷ 0x03 ∷ 0x00 ∷ [])) gives (nothing ∷ [])
+    ∷ run (times 9 (empty ++ 0x00 ∷ 0x01 ∷ 0x01 ∷ 0x02 ∷ 0x03 ∷ 0x00 ∷ [])) gives (finding 39 0 8 9 ∷ [])
+    ∷ run (times 8 (holding (filler 0)) ++ 0x00 ∷ empty ++ holding (filler 0)) gives (finding 39 0 8 10 ∷ [])
+    -- before 14, 15 and 19
+    ∷ run (holding (0x07 ∷ []) ++ times 8 empty) gives (finding 39 0 8 9 ∷ [])
+    ∷ run (times 8 empty ++ holding (one 0x07 0x00 0x00 (0x01 ∷ []))) gives (finding 39 0 8 9 ∷ [])
+    ∷ run (times 8 empty ++ holding (rule 3 (0x00 ∷ 200 ∷ []))) gives (finding 39 0 8 9 ∷ [])
+    ∷ []
+
+-- bar 14 among several containers: the index is that among the joined objects, the bytes are those of its own container
+abbrev pub overruns : List (Example Calling (List Finding))
+overruns =
+    -- in the first, the second and the last
+    run (holding (0x07 ∷ []) ++ holding (filler 0)) gives (finding 13 0 4 1 ∷ [])
+    ∷ run (holding (filler 0 ++ filler 2) ++ holding (filler 1 ++ 0x07 ∷ 0x00 ∷ 0x00 ∷ [])) gives (finding 13 3 4 3 ∷ [])
+    ∷ run (holding (filler 0) ++ holding (filler 0 ++ 0xC8 ∷ 0x00 ∷ 0x80 ∷ 0x04 ∷ 0x01 ∷ []) ++ holding (filler 0)) gives (finding 14 2 4 1 ∷ [])
+    ∷ run (times 7 (holding (filler 0 ++ filler 1)) ++ holding (filler 0 ++ 0xC8 ∷ 0x00 ∷ 0x80 ∷ 0x01 ∷ [])) gives (finding 14 15 1 0 ∷ [])
+    ∷ run (holding (filler 251) ++ holding (filler 200 ++ 0xC8 ∷ 0x00 ∷ 0x80 ∷ 0xFF ∷ replicate 40 0x00)) gives (finding 14 2 255 40 ∷ [])
+    -- behind pads, other options and empty containers, and before them
+    ∷ run (holding (filler 0) ++ 0x00 ∷ 0x01 ∷ 0x01 ∷ 0x02 ∷ 0x03 ∷ 0x01 ∷ 0x07 ∷ holding (0x07 ∷ 0x00 ∷ 0x00 ∷ 0x0D ∷ 0x01 ∷ 0x02 ∷ [])) gives (finding 14 1 13 2 ∷ [])
+    ∷ run (empty ++ 0x00 ∷ empty ++ holding (filler 0 ++ 0x07 ∷ 0x00 ∷ []) ++ 0x00 ∷ 0x05 ∷ 0x00 ∷ empty) gives (finding 13 1 4 2 ∷ [])
+    -- bytes behind its container are not its own, though they would make it whole
+    ∷ run (holding (0xC8 ∷ 0x00 ∷ []) ++ holding (0x80 ∷ 0x00 ∷ [])) gives (finding 13 0 4 2 ∷ [])
+    ∷ run (holding (filler 0 ++ 0xC8 ∷ 0x00 ∷ 0x80 ∷ 0x02 ∷ 0x01 ∷ []) ++ holding (0x02 ∷ [])) gives (finding 14 1 2 1 ∷ [])
+    ∷ run (holding (0xC8 ∷ 0x00 ∷ 0x80 ∷ 0x02 ∷ 0x01 ∷ 0x02 ∷ []) ++ holding (filler 0)) gives (nothing ∷ [])
+    -- the first of two; 15 in an earlier container
+    ∷ run (holding (filler 0 ++ 0x07 ∷ []) ++ holding (0x07 ∷ 0x00 ∷ [])) gives (finding 13 1 4 1 ∷ [])
+    ∷ run (holding (one 0x07 0x00 0x00 (0x01 ∷ [])) ++ holding (0x07 ∷ 0x00 ∷ 0x00 ∷ 0x01 ∷ [])) gives (finding 14 1 1 0 ∷ [])
+    ∷ []
 
 -- bar 19: the node
 abbrev pub nodes : List (Example Calling (List Finding))
@@ -234,6 +305,21 @@ links =
     ∷ hop own0 (lqlOf 3) (rule 6 (0x00 ∷ 0x60 ∷ []) ++ one 7 0x03 0x00 (0x00 ∷ 0x00 ∷ []) ++ rule 4 (0x00 ∷ 0x00 ∷ 0x00 ∷ 0x09 ∷ [])) gives (finding 26 0 9 0 ∷ [])
     ∷ []
 
+-- bar 19 among several containers: the HP metric, and what was received, may stand in another than the constraint
+abbrev pub paths : List (Example Calling (List Finding))
+paths =
+    run (holding (one 3 0x00 0x00 (0x00 ∷ 9 ∷ [])) ++ holding (rule 3 (0x00 ∷ 4 ∷ []))) gives (finding 23 0 4 9 ∷ [])
+    ∷ run (holding (rule 3 (0x00 ∷ 200 ∷ [])) ++ 0x00 ∷ holding (one 3 0x00 0x00 (0x00 ∷ 200 ∷ []))) gives (finding 23 0 200 200 ∷ [])
+    ∷ run (holding (rule 3 (0x00 ∷ 200 ∷ [])) ++ 0x00 ∷ holding (one 3 0x00 0x00 (0x00 ∷ 199 ∷ []))) gives (nothing ∷ [])
+    ∷ run (holding (filler 2) ++ holding (rule 3 (0x00 ∷ 4 ∷ []))) gives (finding 24 0 4 0 ∷ [])
+    ∷ single own0 (latencyOf 1000) (holding (one 5 0x00 0x00 (0 ∷ 0 ∷ 0 ∷ 1 ∷ [])) ++ empty ++ holding (rule 5 (0x00 ∷ 0x00 ∷ 0x03 ∷ 0xE8 ∷ []))) gives (finding 28 1 1000 1001 ∷ [])
+    ∷ single own0 (latencyOf 999) (holding (one 5 0x00 0x00 (0 ∷ 0 ∷ 0 ∷ 1 ∷ [])) ++ empty ++ holding (rule 5 (0x00 ∷ 0x00 ∷ 0x03 ∷ 0xE8 ∷ []))) gives (nothing ∷ [])
+    ∷ single own0 neighbour0 (holding (rule 5 (0x00 ∷ 0x00 ∷ 0x03 ∷ 0xE8 ∷ [])) ++ holding (one 5 0x00 0x00 (0 ∷ 1 ∷ 0 ∷ 0 ∷ []))) gives (finding 29 65536 1000 0 ∷ [])
+    ∷ single own0 (etxOf 128) (holding (rule 7 (0x01 ∷ 0x00 ∷ [])) ++ 0x01 ∷ 0x02 ∷ 0x00 ∷ 0x02 ∷ holding (filler 0 ++ one 7 0x00 0x00 (0x00 ∷ 0x81 ∷ []))) gives (finding 31 129 256 257 ∷ [])
+    -- of the joined objects the first that is not met, behind one that is met and one that is optional
+    ∷ single own0 (lqlOf 3) (holding (rule 6 (0x00 ∷ 0x60 ∷ [])) ++ 0x03 ∷ 0x01 ∷ 0x02 ∷ holding (filler 0 ++ one 7 0x03 0x00 (0x00 ∷ 0x00 ∷ [])) ++ holding (rule 4 (0x00 ∷ 0x00 ∷ 0x00 ∷ 0x09 ∷ []) ++ rule 3 (0x00 ∷ 4 ∷ []))) gives (finding 26 0 9 0 ∷ [])
+    ∷ []
+
 -- every row of them
 pub record ReasonRows : Type 0 where
   pub byRefusal : Holds answerTo refusals
@@ -243,3 +329,7 @@ pub record ReasonRows : Type 0 where
   pub byFrame : Holds foundIn frames
   pub byNode : Holds foundIn nodes
   pub byLink : Holds foundIn links
+  pub byCut : Holds foundIn cuts
+  pub byNinth : Holds foundIn ninths
+  pub byOverrun : Holds foundIn overruns
+  pub byPath : Holds foundIn paths

@@ -70,7 +70,7 @@ pub record ReasonTrue (own : Own) (cs : List Candidate) (lent out : List ℕ) (p
 
 -- of every question that is not refused
 abbrev pub TrueReason : Type 0
-TrueReason = (own : Own) (cs : List Candidate) (lent out : List ℕ) (p : ℕ) → refusedBy (why own cs lent p) ≡ 0 → 257 ≤ length out
+TrueReason = (own : Own) (cs : List Candidate) (lent out : List ℕ) (p : ℕ) → refusedBy (why own cs lent p) ≡ 0 → 2056 ≤ length out
     → (c : Candidate) × (getElem? cs p ≡ some c) × ReasonTrue own cs lent out p c (why own cs lent p)
 
 -- ---- the criteria by number, and both values by the candidates' own numbers

@@ -1,78 +1,43 @@
 // What was asked of a candidate that is barred, and what was found, by the number that bars it.
 ghost use mathlib.Core.Path.{_≡_};
-ghost use mathlib.Core.List.{List};
-ghost use lib.ListN.{getElem?};
-ghost use Rattle.model.specs.Object.{Object};
-ghost use Rattle.model.specs.Reading.{reading, wellFormed};
-ghost use Rattle.model.specs.Constraint.{summary};
-ghost use Rattle.wire.specs.Reading.{toldOf};
-ghost use Rattle.reason.specs.Finding.{objectFinding, unmetFinding, containerFinding, barFinding, findingOf};
-use crate::asked;
+ghost use mathlib.Core.Bool.{false};
+ghost use Rattle.model.specs.declared.Verdict.the-variants.{Barred};
+ghost use Rattle.model.specs.Run.{optionCut};
+ghost use Rattle.model.specs.Verdict.{verdict};
+ghost use Rattle.reason.specs.Finding.{runFinding, barFinding, findingOf};
 use crate::findings;
 use crate::findings::Finding;
 use crate::frames;
 use crate::objects;
+use crate::options;
 use crate::ranges;
 use model::Candidate;
 use model::Neighbour;
 use model::Own;
 use model::Verdict;
-use wire::Reading;
-use wire::Step;
-use wire::Told;
 
-// Bar 19 at the object of an index, by what a well-formed container tells.
-fn at_object(neighbour: Neighbour, told: Told, place: u16, container: &[u8]) -> Finding
-    ensures { λ r. ⌜ ((os : List Object) → reading (now (container .entry)) ≡ wellFormed os → told ≡ toldOf (summary os) → r ≡ objectFinding neighbour (summary os) (getElem? os place)) ⌝ }
+// Bars 14, 19, 22 and 23, by the run; 14 bars only one whose options are whole.
+fn in_run(neighbour: Neighbour, number: u8, place: u16, run: &[u8]) -> Finding
+    ensures { λ r. ⌜ ((number ≡ 14 → optionCut (now (run .entry)) ≡ false) → r ≡ runFinding neighbour number place (now (run .entry))) ⌝ }
 {
-    match objects::object_at(container, place) {
-        Step::Found {
-            header,
-            start,
-            end,
-            next: _,
-        } => asked::of_type(neighbour, told, header.mctype, &container[start..end]),
-        Step::CutShort => findings::nothing(),
-        Step::End => findings::nothing(),
+    if number == 22 {
+        return options::cut_short(run);
     }
-}
-
-// Bar 19 at the object of an index.
-fn unmet(neighbour: Neighbour, place: u16, container: &[u8]) -> Finding
-    ensures { λ r. ⌜ r ≡ unmetFinding neighbour (reading (now (container .entry))) place ⌝ }
-{
-    match wire::read(container) {
-        Reading::Refused {
-            number: _,
-            place: _,
-        } => findings::nothing(),
-        Reading::WellFormed {
-            count: _,
-            mandatory: _,
-            told,
-        } => at_object(neighbour, told, place, container),
-    }
-}
-
-// Bars 13, 14 and 19, by the container.
-fn in_container(neighbour: Neighbour, number: u8, place: u16, container: &[u8]) -> Finding
-    ensures { λ r. ⌜ r ≡ containerFinding neighbour number place (now (container .entry)) ⌝ }
-{
-    if number == 13 {
-        return frames::misframed(container);
+    if number == 23 {
+        return options::containers(run);
     }
     if number == 14 {
-        return frames::overrun(container);
+        return frames::overrun(run);
     }
     if number == 19 {
-        return unmet(neighbour, place, container);
+        return objects::unmet(neighbour, place, run);
     }
     findings::nothing()
 }
 
-// By a bar's number and place.
+// By the number and the place of a candidate's bar.
 fn of_bar(own: Own, candidate: Candidate, number: u8, place: u16, lent: &[u8]) -> Finding
-    ensures { λ r. ⌜ r ≡ barFinding own candidate number place (now (lent .entry)) ⌝ }
+    ensures { λ r. ⌜ (verdict own (now (lent .entry)) candidate ≡ Barred number place → r ≡ barFinding own candidate number place (now (lent .entry))) ⌝ }
 {
     let neighbour = candidate.neighbour;
     if number == 11 {
@@ -86,10 +51,10 @@ fn of_bar(own: Own, candidate: Candidate, number: u8, place: u16, lent: &[u8]) -
     if lent.len() - start < size {
         return frames::outside(candidate, lent.len());
     }
-    in_container(neighbour, number, place, &lent[start..start + size])
+    in_run(neighbour, number, place, &lent[start..start + size])
 }
 
-// What was asked of a candidate and what was found: where it is barred by 11 to 14 or 19; else nothing.
+// What was asked of a candidate and what was found: where it is barred by 11, 12, 14, 19, 22 or 23; else nothing.
 pub fn examine(own: Own, candidate: Candidate, lent: &[u8]) -> Finding
     ensures { λ r. ⌜ r ≡ findingOf own candidate (now (lent .entry)) ⌝ }
 {

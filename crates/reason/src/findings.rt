@@ -31,17 +31,10 @@ pub const ORDER: u8 = 7;
 
 pub const PREFERENCE: u8 = 8;
 
-// Bar 12: the container starts at which and has asked bytes; found are lent.
+// Bar 12: the run starts at which and has asked bytes; found are lent.
 pub const OUTSIDE: u8 = 9;
 
-// Bar 13: asked bytes are the least, and found are there; byte 0 is to be asked, and is found; byte 1 says asked, and found follow.
-pub const SHORT: u8 = 10;
-
-pub const FIRST_BYTE: u8 = 11;
-
-pub const DATA: u8 = 12;
-
-// Bar 14: at the object of index which, asked bytes of header, or of body by its header; found are there.
+// Bar 14: at the object of index which, asked bytes of header, or of body by its header; found are in its container.
 pub const HEADER: u8 = 13;
 
 pub const BODY: u8 = 14;
@@ -98,6 +91,14 @@ pub const UNKNOWN_QUALITY: u8 = 34;
 pub const LACKS_COLOUR: u8 = 35;
 
 pub const HAS_COLOUR: u8 = 36;
+
+// Bar 22: at the option that begins at byte which of the run, asked bytes of type and length, or of data by its length; found are there.
+pub const OPTION: u8 = 37;
+
+pub const OPTION_DATA: u8 = 38;
+
+// Bar 23: asked containers are the most; found are there.
+pub const CONTAINERS: u8 = 39;
 
 // A finding of small numbers, as most are.
 pub(crate) fn small(way: u8, which: u8, asked: u8, found: u8) -> Finding

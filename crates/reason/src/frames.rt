@@ -1,14 +1,18 @@
-// Bars 12 to 14: what runs past what.
+// Bars 12 and 14: what runs past what.
 ghost use mathlib.Core.Path.{_≡_};
-ghost use Prim.Native.Nat.{_≤_};
+ghost use Prim.Native.Nat.{ℕ, _+_, _≤_};
+ghost use mathlib.Core.Bool.{false};
 ghost use lib.ListN.{length};
-ghost use Rattle.reason.specs.Finding.{outsideFinding, frameFinding, cutFinding, overrunFinding};
+ghost use Rattle.model.specs.Run.{optionCut};
+ghost use Rattle.reason.specs.declared.frames.Objects.the-variants.{All};
+ghost use Rattle.reason.specs.Finding.{outsideFinding, objectsTold, overrunFinding};
 use crate::findings;
 use crate::findings::Finding;
+use crate::options;
+use crate::options::Piece;
 use model::Candidate;
-use wire::Step;
 
-// Bar 12: a container that is not inside so many lent bytes.
+// Bar 12: a run that is not inside so many lent bytes.
 pub(crate) fn outside(candidate: Candidate, lent: usize) -> Finding
     ensures { λ r. ⌜ r ≡ outsideFinding candidate lent ⌝ }
 {
@@ -20,82 +24,72 @@ pub(crate) fn outside(candidate: Candidate, lent: usize) -> Finding
     }
 }
 
-// Bar 13: too short, another first byte, or another length than its data has.
-pub(crate) fn misframed(container: &[u8]) -> Finding
-    ensures { λ r. ⌜ r ≡ frameFinding (now (container .entry)) ⌝ }
-{
-    let n = container.len();
-    if n < 2 {
-        return Finding {
-            way: findings::SHORT,
-            which: 0,
-            asked: 2,
-            found: n as u64,
-        };
-    }
-    if container[0] != 2 {
-        return findings::small(findings::FIRST_BYTE, 0, 2, container[0]);
-    }
-    let size = container[1];
-    Finding {
-        way: findings::DATA,
-        which: 0,
-        asked: size as u64,
-        found: (n - 2) as u64,
-    }
+// The objects of a container: one is cut short, as is told of it; or all are whole, and this is the index behind the last.
+pub enum Objects {
+    Short(Finding),
+    All(u64),
 }
 
-// Bar 14: the header or the body of the object that begins at an index, the so-manieth from 0, where one of them runs past the end.
-fn cut_at(container: &[u8], at: usize, index: u64) -> Finding
-    ensures { λ r. ⌜ r ≡ cutFinding (now (container .entry)) at index ⌝ }
+// Bar 14 in one container, by its data and the index of its first object among the joined ones.
+fn objects_of(bytes: &[u8], first: u64) -> Objects
+    requires { ⌜ first + length (now bytes) ≤ 18446744073709551615 ⌝ }
+    ensures { λ r. ⌜ r ≡ objectsTold (now (bytes .entry)) first ⌝ }
+    ensures few { λ r. ⌜ ((j : ℕ) → r ≡ All j → j ≤ first + length (now (bytes .entry))) ⌝ }
 {
-    let n = container.len();
-    if n < at {
-        return findings::nothing();
+    let n = bytes.len();
+    let mut at: usize = 0;
+    let mut index = first;
+    while at < n {
+        let there = n - at;
+        if there < 4 {
+            return Objects::Short(Finding {
+                way: findings::HEADER,
+                which: index,
+                asked: 4,
+                found: there as u64,
+            });
+        }
+        let size = bytes[at + 3] as usize;
+        if there - 4 < size {
+            return Objects::Short(Finding {
+                way: findings::BODY,
+                which: index,
+                asked: size as u64,
+                found: (there - 4) as u64,
+            });
+        }
+        at += 4 + size;
+        index += 1;
     }
-    let there = n - at;
-    if there < 4 {
-        return Finding {
-            way: findings::HEADER,
-            which: index,
-            asked: 4,
-            found: there as u64,
-        };
-    }
-    let size = container[at + 3];
-    Finding {
-        way: findings::BODY,
-        which: index,
-        asked: size as u64,
-        found: (there - 4) as u64,
-    }
+    Objects::All(index)
 }
 
-// Bar 14: the object that runs past the end of a container.
-pub(crate) fn overrun(container: &[u8]) -> Finding
-    ensures { λ r. ⌜ r ≡ overrunFinding (now (container .entry)) ⌝ }
+// Bar 14: the first object that runs past the end of its container, in a run whose options are whole.
+pub(crate) fn overrun(run: &[u8]) -> Finding
+    ensures { λ r. ⌜ (optionCut (now (run .entry)) ≡ false → r ≡ overrunFinding (now (run .entry))) ⌝ }
 {
-    let mut cursor = wire::first();
-    let mut at: usize = 2;
+    let n = run.len();
+    let mut at: usize = 0;
     let mut index: u64 = 0;
-    loop {
-        match wire::next(container, cursor) {
-            Step::Found {
-                header: _,
-                start: _,
-                end,
-                next,
-            } => {
-                cursor = next;
-                at = end;
-                index += 1;
-            }
-            Step::CutShort => {
-                return cut_at(container, at, index);
-            }
-            Step::End => {
+    while at < n {
+        match options::option_at(run, at) {
+            Piece::Cut(_) => {
                 return findings::nothing();
+            }
+            Piece::Whole { kind, end } => {
+                if kind == 2 {
+                    match objects_of(&run[at + 2..end], index) {
+                        Objects::Short(finding) => {
+                            return finding;
+                        }
+                        Objects::All(behind) => {
+                            index = behind;
+                        }
+                    }
+                }
+                at = end;
             }
         }
     }
+    findings::nothing()
 }

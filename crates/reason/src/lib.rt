@@ -15,6 +15,7 @@ mod bars;
 mod findings;
 mod frames;
 mod objects;
+mod options;
 mod ranges;
 mod reasons;
 
@@ -25,9 +26,8 @@ pub use findings::BARRED_TYPE;
 pub use findings::BARRED_UNKNOWN;
 pub use findings::BODY;
 pub use findings::COLOUR;
-pub use findings::DATA;
+pub use findings::CONTAINERS;
 pub use findings::ETX;
-pub use findings::FIRST_BYTE;
 pub use findings::Finding;
 pub use findings::HAS_COLOUR;
 pub use findings::HEADER;
@@ -38,6 +38,8 @@ pub use findings::LITTLE_ENERGY;
 pub use findings::LQL;
 pub use findings::NODE_TYPE;
 pub use findings::NOTHING;
+pub use findings::OPTION;
+pub use findings::OPTION_DATA;
 pub use findings::ORDER;
 pub use findings::OTHER_TYPE;
 pub use findings::OUTSIDE;
@@ -47,7 +49,6 @@ pub use findings::PATH_LATENCY;
 pub use findings::PREFERENCE;
 pub use findings::QUALITY;
 pub use findings::RF;
-pub use findings::SHORT;
 pub use findings::SP;
 pub use findings::SR;
 pub use findings::THROUGHPUT;
@@ -64,7 +65,7 @@ pub use reasons::REFUSED;
 pub use reasons::Reason;
 
 // An output that is long enough: a question lends none, so that it is never refused for a short one.
-const ROOM: usize = 257;
+const ROOM: usize = 2056;
 
 // The refusal of a question: that of the call but for its output, then a position that is not below the count.
 fn refusal_of(own: Own, count: usize, position: usize) -> u8

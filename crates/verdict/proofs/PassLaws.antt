@@ -22,7 +22,8 @@ use Rattle.wire.specs.declared.options.Start.{Start}
 use Rattle.wire.specs.Step.{stepAt, objectIn}
 use Rattle.wire.specs.Entry.{entryAt}
 use Rattle.wire.specs.Start.{startOf}
-use Rattle.wire.proofs.RunWalkLaws.{RunWalked, run-first, run-found, run-enter, run-end, run-short, run-cut, run-rest}
+use Rattle.wire.specs.Walk.{RunWalked}
+use Rattle.wire.proofs.RunWalkLaws.{run-first, run-found, run-enter, run-end, run-short, run-cut, run-rest}
 use Rattle.verdict.specs.Judged.{Tabled, WellFormed, BarsFirst}
 use Rattle.model.proofs.TabledLaws.{among-tabled}
 

@@ -7,10 +7,9 @@ use mathlib.Core.List.{List, [], _∷_, _++_}
 use mathlib.Core.Option.{Option, none, some}
 use lib.ListN.{length, take, getD, length-append}
 use lib.Seq.{length-take-le}
-use Rattle.model.specs.Object.{Object}
+use Rattle.model.specs.Object.{Object, behind}
 use Rattle.model.specs.Reading.{isNone, misframed, readObjects, reading}
 use Rattle.model.specs.Run.{objectCut, ninthContainer, runObjects, readRun}
-use Rattle.model.proofs.ObjectLaws.{behind}
 use Rattle.model.proofs.RunLaws.{few-objects, one-container}
 use Rattle.wire.specs.declared.objects.Header.{Header}
 use Rattle.wire.specs.declared.objects.Cursor.{Cursor}
@@ -23,11 +22,11 @@ use Rattle.wire.specs.declared.container.Reading.the-variants.{Refused}
 use Rattle.wire.specs.Step.{stepAt, objectIn}
 use Rattle.wire.specs.Entry.{entryAt}
 use Rattle.wire.specs.Start.{startOf}
-use Rattle.wire.specs.Walk.{objectsFrom}
+use Rattle.wire.specs.Walk.{objectsFrom, RunWalked}
 use Rattle.wire.specs.Gathered.{Gathers, untold, wholeReading, barredBy}
 use Rattle.wire.specs.Reading.{readingOf}
 use Rattle.wire.proofs.StepLaws.{found}
-use Rattle.wire.proofs.RunWalkLaws.{RunWalked, run-first, run-found, run-enter, run-end}
+use Rattle.wire.proofs.RunWalkLaws.{run-first, run-found, run-enter, run-end}
 use Rattle.wire.proofs.GatherLaws.{gathers-none, gathers-le, gathers-behind, gathers-refused}
 
 -- the objects before a cursor, none of which has a bar, and what is gathered of them

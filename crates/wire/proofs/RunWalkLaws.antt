@@ -1,6 +1,6 @@
 -- The walk over a run's objects, as every pass takes it: the objects before a cursor, and what the step there, or the entry behind its container, says of them.
 use mathlib.Core.Path.{_≡_, refl, sym, ap, _∙_}
-use Prim.Native.Nat.{ℕ, zero, suc, _+_, _-_, _*_, _≤_, _<_}
+use Prim.Native.Nat.{ℕ, zero, suc, _+_, _-_, _≤_, _<_}
 use native.Mathlib.Nat.{zero-add, add-zero, suc-add, not-suc-le-zero}
 use native.Mathlib.Omega.{arith}
 use mathlib.Core.Bool.{Bool, true, false, cond, _&&_}
@@ -10,12 +10,11 @@ use lib.ListN.{length, take, drop, getD, length-append, length-take, length-drop
 use lib.Seq.{take-nil, drop-nil, getD-drop, drop-drop, take-length, drop-length, length-take-le, slice}
 use lib.Dec.{leb, ltb, eqb}
 use borrow.Author.Tests.{ne-eqb, leb-true, leb-false, ltb-true, ltb-false}
-use Rattle.model.specs.Object.{Object, before, splitUpTo, split}
+use Rattle.model.specs.Object.{Object, before, splitUpTo, split, behind}
 use Rattle.model.specs.Reading.{misframed, dataObjects}
 use Rattle.model.specs.Cut.{keepIf}
 use Rattle.model.specs.Run.{RplOption, pad1, option, leading, optionsUpTo, options, isContainer, containers, joined, objectsOf, joinedObjects, runObjects}
 use Rattle.model.proofs.BoolLaws.{both}
-use Rattle.model.proofs.ObjectLaws.{behind}
 use Rattle.model.proofs.RunLaws.{options-pad, options-step, joined-nil, framed-run}
 use Rattle.model.proofs.ReadingLaws.{framed}
 use Rattle.wire.specs.declared.objects.Header.{Header}
@@ -28,7 +27,7 @@ use Rattle.wire.specs.declared.options.Start.{Start}
 use Rattle.wire.specs.Step.{firstCursor, stepAt, objectIn}
 use Rattle.wire.specs.Entry.{optionSize, entryBy, entryAt}
 use Rattle.wire.specs.Start.{startOf}
-use Rattle.wire.specs.Walk.{Inside, objectsFrom, entered, within, runWalkUpTo, runWalk, RunWalks}
+use Rattle.wire.specs.Walk.{Inside, objectsFrom, entered, within, runWalkUpTo, runWalk, RunWalks, RunWalked}
 use Rattle.wire.proofs.StepLaws.{found, left, split-found, split-short, split-end}
 use Rattle.wire.proofs.EntryLaws.{size-inside, entry-end, entry-at}
 
@@ -232,12 +231,6 @@ from-start run s e = rw e (go (misframed run) refl)
     go false q = rw (take-length run, drop-length run) (joined-nil (dataObjects run) ∙ sym (framed-run run q))
 
 -- ---- the objects before a cursor
-
--- the objects before a cursor of a run that a walk has come to, in a container that ends at an index
-pub record RunWalked (run : List ℕ) (end : ℕ) (p : Cursor) (earlier : List Object) : Type 0 where
-  pub inside : Inside run end p
-  pub so-far : runObjects run ≡ behind earlier (objectsFrom run end p)
-  pub few : 4 * length earlier ≤ p .at
 
 behind-nil : (r : Option (List Object)) → r ≡ behind [] r
 behind-nil none = refl

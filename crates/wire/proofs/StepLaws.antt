@@ -9,8 +9,8 @@ use lib.ListN.{length, drop, getD, length-drop, take-append-drop, drop-of-length
 use lib.Seq.{drop-cons, drop-drop, length-take-le}
 use lib.Dec.{leb, ltb}
 use borrow.Author.Tests.{lt-leb, leb-true, leb-false, ltb-true, ltb-false}
-use Rattle.model.specs.Object.{Object, before, splitUpTo, split, join, bytesOf}
-use Rattle.model.proofs.ObjectLaws.{split-step, behind, split-append}
+use Rattle.model.specs.Object.{Object, before, splitUpTo, split, join, bytesOf, behind}
+use Rattle.model.proofs.ObjectLaws.{split-step, split-append}
 use Rattle.wire.specs.declared.objects.Header.{Header}
 use Rattle.wire.specs.declared.objects.Cursor.{Cursor}
 use Rattle.wire.specs.declared.objects.Step.{Step}
@@ -59,7 +59,7 @@ ended-by bs p false true c ha e = absurd (let z : _≡_ {A = ℕ} 0 1 = cc in om
 ended-by bs p false false true ha e = absurd (let z : _≡_ {A = ℕ} 0 1 = cc in omega arith)
 ended-by bs p false false false ha e = absurd (let z : _≡_ {A = ℕ} 0 1 = cc in omega arith)
 
-header-at : (bs : List ℕ) (at : ℕ) → at + 4 ≤ length bs
+pub header-at : (bs : List ℕ) (at : ℕ) → at + 4 ≤ length bs
     → drop at bs ≡ getD bs at 0 ∷ getD bs (at + 1) 0 ∷ getD bs (at + 2) 0 ∷ getD bs (at + 3) 0 ∷ drop (at + 4) bs
 header-at bs at h =
     let e1 : suc at ≡ at + 1 = omega arith in

@@ -6,9 +6,9 @@ use native.Mathlib.Omega.{arith}
 use mathlib.Core.List.{List, [], _∷_, _++_, append-assoc, append-nil}
 use mathlib.Core.Option.{Option, none, some, Option·none-ne-some}
 use lib.ListN.{length, drop, length-append, length-drop}
-use Rattle.model.specs.Object.{Object, before, split, join, bytesOf}
+use Rattle.model.specs.Object.{Object, before, split, join, bytesOf, behind}
 use Rattle.model.specs.Reading.{dataObjects}
-use Rattle.model.proofs.ObjectLaws.{behind, split-append, join-append, join-four}
+use Rattle.model.proofs.ObjectLaws.{split-append, join-append, join-four}
 use Rattle.wire.specs.declared.objects.Header.{Header}
 use Rattle.wire.specs.declared.objects.Cursor.{Cursor}
 use Rattle.wire.specs.declared.objects.Step.{Step}

@@ -1,11 +1,11 @@
 -- The walk over objects: step after step from the cursor before a container's first object; in a run, from container to container.
 use mathlib.Core.Path.{_≡_}
-use Prim.Native.Nat.{ℕ, zero, suc, _≤_}
+use Prim.Native.Nat.{ℕ, zero, suc, _*_, _≤_}
 use mathlib.Core.List.{List, []}
 use mathlib.Core.Option.{Option, none, some}
 use lib.ListN.{length, take, drop}
 use lib.Seq.{slice}
-use Rattle.model.specs.Object.{Object, before, split}
+use Rattle.model.specs.Object.{Object, before, split, behind}
 use Rattle.model.specs.Reading.{dataObjects}
 use Rattle.model.specs.Run.{joined, runObjects}
 use Rattle.wire.specs.declared.objects.Cursor.{Cursor}
@@ -70,3 +70,9 @@ runWalk run = runWalkUpTo (suc (length run)) run (startOf run .end) (startOf run
 -- the walk finds the run's joined objects
 abbrev pub RunWalks : Type 0
 RunWalks = (run : List ℕ) → runWalk run ≡ runObjects run
+
+-- inside the crates: the objects before a cursor of a run that a walk has come to, in a container that ends at an index
+pub record RunWalked (run : List ℕ) (end : ℕ) (p : Cursor) (earlier : List Object) : Type 0 where
+  pub inside : Inside run end p
+  pub so-far : runObjects run ≡ behind earlier (objectsFrom run end p)
+  pub few : 4 * length earlier ≤ p .at

@@ -32,7 +32,7 @@ pub struct Gathered {
     pub flags: u32,
 }
 
-// Before the first object.
+// Of no object.
 pub(crate) fn nothing() -> Gathered
     ensures { λ r. ⌜ r ≡ untold ⌝ }
 {

@@ -1,16 +1,13 @@
-//! Bars 12 to 19.
+//! Bars 12 to 19 of runs of one container.
 
 use super::{Trial, NEIGHBOUR, OWN};
-use crate::reference::data::{Candidate, Neighbour, CANDIDATES, ENERGY_KNOWN, NO_PLACE};
+use crate::reference::data::{
+    Candidate, Neighbour, CANDIDATES, ENERGY_KNOWN, NO_PLACE, OUTPUT_ROOM,
+};
 
 /// A container, the verdict, and the place of the object that bars.
 const BARS: &[(&str, u8, u16)] = &[
     ("02 00", 10, NO_PLACE),
-    ("", 13, NO_PLACE),
-    ("02", 13, NO_PLACE),
-    ("03 00", 13, NO_PLACE),
-    ("02 01", 13, NO_PLACE),
-    ("02 00 00", 13, NO_PLACE),
     // 14 goes before 15 to 17
     ("02 03 07 00 00", 14, NO_PLACE),
     ("02 05 07 00 00 02 01", 14, NO_PLACE),
@@ -164,10 +161,13 @@ fn energies(trial: &mut Trial) {
     }
 }
 
-/// Start and size of a container, and its verdict, in a lent run of two bytes.
+/// Start and size of a run, and its verdict, in two lent bytes, 02 00.
 const PLACES: &[(usize, usize, u8)] = &[
     (0, 2, 10),
-    (2, 0, 13),
+    (0, 0, 10),
+    (0, 1, 22),
+    (1, 1, 10),
+    (2, 0, 10),
     (3, 0, 12),
     (1, 2, 12),
     (2, usize::MAX, 12),
@@ -181,7 +181,7 @@ fn places(trial: &mut Trial) {
             start,
             size,
         };
-        let answer = (trial.choose)(OWN, &candidates, 1, &mut [2, 0], &mut [0; 257]);
+        let answer = (trial.choose)(OWN, &candidates, 1, &mut [2, 0], &mut [0; OUTPUT_ROOM]);
         let name = format!("start {start}, size {size}");
         trial.expect(&name, verdict, answer.verdicts[0]);
     }

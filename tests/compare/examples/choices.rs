@@ -1,7 +1,7 @@
 //! The choice of a parent.
 
 use super::{with_current, Trial, NEIGHBOUR, OWN};
-use crate::reference::data::{Candidate, Neighbour, CANDIDATES, NO_PARENT};
+use crate::reference::data::{Candidate, Neighbour, CANDIDATES, NO_PARENT, OUTPUT_ROOM};
 
 /// Three candidates of these ranks, each one unit away, the current position, and the parent.
 const CHOICES: &[([u16; 3], Option<usize>, u8)] = &[
@@ -28,7 +28,7 @@ pub fn hold(trial: &mut Trial) {
             };
             bits |= u16::from(rank < 65279) << index;
         }
-        let answer = (trial.choose)(own, &candidates, 3, &mut [2, 0], &mut [0; 257]);
+        let answer = (trial.choose)(own, &candidates, 3, &mut [2, 0], &mut [0; OUTPUT_ROOM]);
         let given = (answer.parent, answer.bits, u32::from(answer.count));
         let name = format!("ranks {ranks:?}, current {current:?}");
         trial.expect(&name, (parent, bits, bits.count_ones()), given);

@@ -60,14 +60,14 @@ const RECORDED: &[(u16, &str, &str)] = &[
     (512, "80 3F 80 3F 00 01", "80 3F 80 3F 00 01 80 01"),
 ];
 
-/// A link's colour, a container, and the verdict: 11 comes first.
+/// A link's colour, a run, and the verdict: 11 comes first.
 const RANGE: &[(u16, &str, u8)] = &[
     (1023, "02 00", 10),
     (1024, "02 00", 11),
     (1539, "02 07 08 02 00 03 00 80 C1", 11),
     (65535, "02 00", 11),
-    (1023, "", 13),
-    (1024, "", 11),
+    (1023, "02", 22),
+    (1024, "02", 11),
 ];
 
 /// An object of each known type and use, which the neighbour does not bar.

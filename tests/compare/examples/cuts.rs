@@ -1,9 +1,10 @@
 //! The cut and the places of demand 3, as the checks of pairs read them.
 
 use super::bytes;
-use crate::cut::{cut, is_unknown_mandatory, objects, places_kept};
+use crate::cut::{cut, is_unknown_mandatory, places_kept};
+use crate::options::objects;
 
-/// A container, and what the cut leaves of it.
+/// A run, and what the cut leaves of it.
 const CUTS: &[(&str, &str)] = &[
     ("02 00", "02 00"),
     (
@@ -41,6 +42,17 @@ const CUTS: &[(&str, &str)] = &[
         "02 08 05 F8 00 04 01 02 03 04",
         "02 08 05 F8 00 04 01 02 03 04",
     ),
+    // each container by itself; Pad1, PadN and other options stay, whatever is in them
+    ("", ""),
+    (
+        "00 01 02 02 04 09 04 02 04 C8 03 00 00 00",
+        "00 01 02 02 04 09 04 02 04 C8 03 00 00 00",
+    ),
+    ("02 04 C8 03 00 00 02 04 09 02 00 00", "02 00 02 00"),
+    (
+        "02 08 01 FF FF 04 AA BB 07 00 00 00 02 0A C8 03 00 00 07 00 00 02 01 C9 01 01 02",
+        "02 06 01 FF FF 02 AA BB 00 00 02 06 07 00 00 02 01 C9 01 01 02",
+    ),
 ];
 
 /// An object, and whether it is an unknown mandatory constraint.
@@ -53,7 +65,7 @@ const MANDATORY: &[(&str, bool)] = &[
     ("02 06 07 02 00 02 00 00", false),
 ];
 
-/// A container received, one passed on, and whether all places are kept.
+/// A run received, one passed on, and whether all places are kept.
 const PLACES: &[(&str, &str, bool)] = &[
     ("02 05 C8 F9 FF 01 AA", "02 05 C8 04 FF 01 AA", true),
     ("02 05 C8 F9 FF 01 AA", "02 05 C8 00 FF 01 AA", false),
@@ -89,6 +101,22 @@ const PLACES: &[(&str, &str, bool)] = &[
     ),
     ("02 04 C8 03 00 00", "02 00", false),
     ("02 04 C8 03 00 00", "02 05 C8 03 00 00 00", false),
+    // wherever containers begin
+    (
+        "02 00 00 02 05 C8 00 80 01 AA 02 04 C8 03 00 00",
+        "02 09 C8 04 80 01 AA C8 03 00 00",
+        true,
+    ),
+    (
+        "02 09 C8 00 80 01 AA C8 03 00 00",
+        "02 05 C8 04 80 01 AA 02 04 C8 03 00 00",
+        true,
+    ),
+    (
+        "02 09 C8 00 80 01 AA C8 03 00 00",
+        "02 04 C8 03 00 00 02 05 C8 04 80 01 AA",
+        false,
+    ),
     // TLVs
     (
         "02 08 01 00 10 04 FF FF 07 00",
@@ -110,9 +138,9 @@ const PLACES: &[(&str, &str, bool)] = &[
 /// The examples that do not hold, a line each.
 pub fn failed() -> Vec<String> {
     let mut failed = Vec::new();
-    for &(container, left) in CUTS {
-        if cut(&bytes(container)) != Some(bytes(left)) {
-            failed.push(format!("the cut of {container} is not {left}"));
+    for &(run, left) in CUTS {
+        if cut(&bytes(run)) != Some(bytes(left)) {
+            failed.push(format!("the cut of {run} is not {left}"));
         }
     }
     for &(container, mandatory) in MANDATORY {

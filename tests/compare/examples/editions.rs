@@ -2,7 +2,8 @@
 
 use super::{bytes, with_current, Trial, BEFORE, NEIGHBOUR, OWN};
 use crate::reference::data::{
-    Candidate, Neighbour, Own, CANDIDATES, ETX_KNOWN, FIRST_EDITION, GROUNDED, SECOND_EDITION,
+    Candidate, Neighbour, Own, CANDIDATES, ETX_KNOWN, FIRST_EDITION, GROUNDED, OUTPUT_ROOM,
+    SECOND_EDITION,
 };
 
 /// Interface order, grounded or not (1 or 0), root preference, resulting rank.
@@ -47,7 +48,7 @@ const CHOICES: &[([Fields; 2], Option<usize>, [u8; 2])] = &[
     ([(8, 1, 7, 768), (7, 0, 0, 1024)], Some(0), [0, 1]),
 ];
 
-/// Interface order, root preference, a container, and the verdict in edition 1 and in edition 2.
+/// Interface order, root preference, a run, and the verdict in edition 1 and in edition 2.
 const RANGES: &[(u8, u8, &str, [u8; 2])] = &[
     (7, 0, "02 00", [10, 10]),
     (0, 7, "02 00", [10, 10]),
@@ -58,9 +59,9 @@ const RANGES: &[(u8, u8, &str, [u8; 2])] = &[
     (7, 128, "02 00", [10, 11]),
     (255, 255, "02 00", [10, 11]),
     // 11 comes first
-    (7, 7, "", [13, 13]),
-    (8, 7, "", [13, 11]),
-    (7, 8, "", [13, 11]),
+    (7, 7, "02", [22, 22]),
+    (8, 7, "02", [22, 11]),
+    (7, 8, "02", [22, 11]),
 ];
 
 pub const EDITIONS: [u8; 2] = [FIRST_EDITION, SECOND_EDITION];
@@ -100,7 +101,7 @@ fn chosen(trial: &mut Trial, edition: u8, fields: [Fields; 2], current: Option<u
         };
     }
     let mut lent = bytes("02 06 07 00 00 02 00 00 02 06 07 00 00 02 01 00");
-    let mut out = [BEFORE; 257];
+    let mut out = [BEFORE; OUTPUT_ROOM];
     let answer = (trial.choose)(own, &candidates, 2, &mut lent, &mut out);
     let given = (answer.parent, answer.rank, [out[6], out[7]]);
     let (_, _, _, rank) = fields[usize::from(parent)];

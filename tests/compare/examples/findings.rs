@@ -44,8 +44,8 @@ const RIGHT: Neighbour = Neighbour {
     ..ORDER_RIGHT
 };
 
-/// A neighbour without a container's bytes (13, where no number bars it), and what is told in
-/// edition 1 and in edition 2.
+/// A neighbour with a run of the byte 02 (22, where no number bars it), and what is told in edition
+/// 1 and in edition 2.
 const RANGES: &[(Neighbour, [Told; 2])] = &[
     (WRONG, [(1, 1, 9, 10); 2]),
     (Neighbour { sp: 0, ..WRONG }, [(1, 1, 9, 0); 2]),
@@ -55,16 +55,17 @@ const RANGES: &[(Neighbour, [Told; 2])] = &[
     (SR_RIGHT, [(4, 0, 7, 8); 2]),
     (LQL_RIGHT, [(5, 0, 3, 4); 2]),
     (TYPE_RIGHT, [(6, 0, 1023, 1024); 2]),
-    (COLOUR_RIGHT, [(10, 0, 2, 0), (7, 0, 7, 8)]),
-    (ORDER_RIGHT, [(10, 0, 2, 0), (8, 0, 7, 9)]),
-    (RIGHT, [(10, 0, 2, 0); 2]),
+    (COLOUR_RIGHT, [(37, 0, 2, 1), (7, 0, 7, 8)]),
+    (ORDER_RIGHT, [(37, 0, 2, 1), (8, 0, 7, 9)]),
+    (RIGHT, [(37, 0, 2, 1); 2]),
 ];
 
-/// Start and size of a container in a lent run of the bytes 02 00.
+/// Start and size of a run in the lent bytes 02 00.
 const PLACES: &[(usize, usize, Told)] = &[
     (0, 2, NOTHING),
-    (2, 0, (10, 0, 2, 0)),
-    (1, 1, (10, 0, 2, 1)),
+    (0, 1, (37, 0, 2, 1)),
+    (1, 1, NOTHING),
+    (2, 0, NOTHING),
     (3, 0, (9, 3, 0, 2)),
     (1, 2, (9, 1, 2, 2)),
     (0, 3, (9, 0, 3, 2)),
@@ -72,16 +73,37 @@ const PLACES: &[(usize, usize, Told)] = &[
     (usize::MAX, usize::MAX, (9, u64::MAX, u64::MAX, 2)),
 ];
 
-/// Whole containers: too short, byte 0, data; a header and a body that run past the end.
-const FRAMES: &[(&str, Told)] = &[
-    ("", (10, 0, 2, 0)),
-    ("02", (10, 0, 2, 1)),
-    ("03", (10, 0, 2, 1)),
-    ("03 00", (11, 0, 2, 3)),
-    ("00 07", (11, 0, 2, 0)),
-    ("02 01", (12, 0, 1, 0)),
-    ("02 00 00", (12, 0, 0, 1)),
-    ("02 FF 07 00 00", (12, 0, 255, 3)),
+/// Whole runs: an option's length, its data; a header and a body that run past the end.
+const RUNS: &[(&str, Told)] = &[
+    ("", NOTHING),
+    ("03 00", NOTHING),
+    ("02 00 00", NOTHING),
+    ("02", (37, 0, 2, 1)),
+    ("01", (37, 0, 2, 1)),
+    ("FF", (37, 0, 2, 1)),
+    ("00 07", (37, 1, 2, 1)),
+    ("02 00 00 01 02 00 00 02", (37, 7, 2, 1)),
+    ("02 01", (38, 0, 1, 0)),
+    ("02 FF 07 00 00", (38, 0, 255, 3)),
+    ("00 00 01 05 00 00 00 00", (38, 2, 5, 4)),
+    ("02 00 03 01 02 02 02 02", (38, 5, 2, 1)),
+    // 22 goes before 23, and 23 before 14
+    (
+        "02 00 02 00 02 00 02 00 02 00 02 00 02 00 02 00 02 00 09",
+        (37, 18, 2, 1),
+    ),
+    (
+        "02 00 02 00 02 00 02 00 02 00 02 00 02 00 02 00 02 00",
+        (39, 0, 8, 9),
+    ),
+    (
+        "02 01 07 02 00 02 00 02 00 02 00 02 00 02 00 00 02 00 01 02 02 00 02 00 02 00",
+        (39, 0, 8, 10),
+    ),
+    (
+        "02 00 02 00 02 00 02 00 02 00 02 00 02 00 02 01 07",
+        (13, 0, 4, 1),
+    ),
     ("02 01 07", (13, 0, 4, 1)),
     ("02 03 07 00 00", (13, 0, 4, 3)),
     ("02 04 07 00 00 01", (14, 0, 1, 0)),
@@ -89,6 +111,15 @@ const FRAMES: &[(&str, Told)] = &[
     // behind an object that is whole, though its body is not as tabled
     ("02 07 07 00 00 01 01 07 00", (13, 1, 4, 2)),
     ("02 0A 07 00 00 01 01 07 00 00 02 01", (14, 1, 2, 1)),
+    // in a later container: the index counts all objects, the bytes are those of its own
+    ("02 04 C8 01 00 00 02 01 07", (13, 1, 4, 1)),
+    (
+        "02 04 C8 01 00 00 02 00 00 02 06 07 00 00 02 01 C9 02 02 07 00",
+        (13, 2, 4, 2),
+    ),
+    ("02 05 07 00 00 02 01 02 01 C9", (14, 0, 2, 1)),
+    ("02 03 07 00 00 02 03 02 01 C9", (13, 0, 4, 3)),
+    ("02 05 07 00 00 01 01 02 05 07 00 00 02 01", (14, 1, 2, 1)),
 ];
 
 /// What the constraints of a neighbour's container find.
@@ -295,7 +326,7 @@ const REFUSED: [Own; 3] = [
 pub fn hold(trial: &mut Trial) {
     for &(neighbour, told) in RANGES {
         for (edition, told) in [FIRST_EDITION, SECOND_EDITION].into_iter().zip(told) {
-            expect(trial, Own { edition, ..OWN }, neighbour, "", told);
+            expect(trial, Own { edition, ..OWN }, neighbour, "02", told);
         }
     }
     for &(start, size, told) in PLACES {
@@ -309,8 +340,8 @@ pub fn hold(trial: &mut Trial) {
             told,
         );
     }
-    for &(container, told) in FRAMES {
-        expect(trial, OWN, NEIGHBOUR, container, told);
+    for &(run, told) in RUNS {
+        expect(trial, OWN, NEIGHBOUR, run, told);
     }
     for &(neighbour, rows) in OBJECTS {
         for &(data, told) in rows {
@@ -325,8 +356,12 @@ fn others(trial: &mut Trial) {
     let full = "C8 00 80 00 ".repeat(63);
     let cut = framed(&format!("{full}07 00 00"));
     expect(trial, OWN, NEIGHBOUR, &cut, (13, 63, 4, 3));
-    let long = format!("02 FF {}", "00 ".repeat(256));
-    expect(trial, OWN, NEIGHBOUR, &long, (12, 0, 255, 256));
+    let far = format!("{}02 01 07", framed(&full).repeat(7));
+    expect(trial, OWN, NEIGHBOUR, &far, (13, 441, 4, 1));
+    let last = format!("{far}{}", " 02 00".repeat(250));
+    expect(trial, OWN, NEIGHBOUR, &last, (39, 0, 8, 258));
+    let long = format!("02 FF {}", "00 ".repeat(254));
+    expect(trial, OWN, NEIGHBOUR, &long, (38, 0, 255, 254));
     let infinite = Neighbour {
         rank: 65535,
         ..NEIGHBOUR
@@ -342,20 +377,20 @@ fn others(trial: &mut Trial) {
         let limit = framed("07 02 00 02 00 7F");
         expect(trial, own, NEIGHBOUR, &limit, (30, 0, 127, 128));
         // order and preference have a range in edition 2 alone
-        expect(trial, own, COLOUR_RIGHT, "", (10, 0, 2, 0));
-        expect(trial, own, WRONG, "", (1, 1, 9, 10));
+        expect(trial, own, COLOUR_RIGHT, "02", (37, 0, 2, 1));
+        expect(trial, own, WRONG, "02", (1, 1, 9, 10));
     }
 }
 
-/// What is told of a neighbour with this container, all that is lent.
-fn expect(trial: &mut Trial, own: Own, neighbour: Neighbour, container: &str, told: Told) {
-    let mut lent = bytes(container);
+/// What is told of a neighbour with this run, all that is lent.
+fn expect(trial: &mut Trial, own: Own, neighbour: Neighbour, run: &str, told: Told) {
+    let mut lent = bytes(run);
     let size = lent.len();
-    let name = format!("finding, {own:?}, {neighbour:?}: {container}");
+    let name = format!("finding, {own:?}, {neighbour:?}: {run}");
     examined(trial, own, (neighbour, 0, size), &mut lent, &name, told);
 }
 
-/// What is told of a neighbour with a container at this start and of this size.
+/// What is told of a neighbour with a run at this start and of this size.
 fn examined(
     trial: &mut Trial,
     own: Own,

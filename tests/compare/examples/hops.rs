@@ -1,7 +1,7 @@
-//! Containers updated for this hop.
+//! Containers updated for this hop, each of which leaves as one.
 
 use super::{bytes, Trial, BEFORE, NEIGHBOUR, OWN};
-use crate::reference::data::{Neighbour, Own, THROUGHPUT_KNOWN};
+use crate::reference::data::{Neighbour, Own, OUTPUT_ROOM, THROUGHPUT_KNOWN};
 
 /// A container as received, and as it leaves.
 const HOPS: &[(&str, &str)] = &[
@@ -99,7 +99,7 @@ pub fn hold(trial: &mut Trial) {
         let (answer, out) = trial.one(OWN, NEIGHBOUR, received);
         let mut expected = bytes(leaves);
         let size = expected.len() as u16;
-        expected.resize(257, BEFORE);
+        expected.resize(OUTPUT_ROOM, BEFORE);
         trial.expect(received, (0, size), (answer.leaf, answer.size));
         trial.expect(received, expected, out);
     }

@@ -1,7 +1,7 @@
 //! Leaf answers.
 
 use super::{Trial, BEFORE, NEIGHBOUR, OWN};
-use crate::reference::data::{Neighbour, THROUGHPUT_KNOWN};
+use crate::reference::data::{Neighbour, OUTPUT_ROOM, THROUGHPUT_KNOWN};
 
 const LEAVES: &[(&str, u8)] = &[
     ("02 05 C8 00 00 01 AA", 31),
@@ -22,6 +22,10 @@ const LEAVES: &[(&str, u8)] = &[
     ("02 0D C8 00 00 01 AA 05 00 00 04 FF FF FF FF", 31),
     // the first object that has one, though a later one has a lower number
     ("02 0B 03 00 00 02 00 FF C8 00 00 01 AA", 34),
+    // in whichever container it stands
+    ("02 06 03 00 00 02 00 FF 00 02 05 C8 00 00 01 AA", 34),
+    ("02 00 02 05 C8 00 00 01 AA 02 06 03 00 00 02 00 FF", 31),
+    ("02 06 07 00 00 02 00 80 02 06 02 00 20 02 00 00", 33),
 ];
 
 pub fn hold(trial: &mut Trial) {
@@ -30,21 +34,31 @@ pub fn hold(trial: &mut Trial) {
     }
     let full = format!("02 FE 07 00 80 FA {}", "00 ".repeat(250));
     leaf(trial, NEIGHBOUR, &full, 35);
-    // a colour takes two bytes more: 255 and 254 have no room for it
+    // a colour takes two bytes more: an object of 255 has no room for it
     let colours = format!("02 FF 08 00 80 FB 00 {}", "80 FF ".repeat(125));
     leaf(trial, NEIGHBOUR, &colours, 35);
-    let colours = "80 FF ".repeat(121);
-    let colours = format!("02 FE 08 00 80 F3 00 {colours}08 02 00 03 00 80 C1");
-    leaf(trial, NEIGHBOUR, &colours, 35);
-    let zeros = "00 ".repeat(242);
-    let both = format!("02 FE 07 00 80 F2 {zeros}05 00 00 04 FF FF FF FF");
-    leaf(trial, NEIGHBOUR, &both, 36);
+    ninth(trial);
+    // 35 comes behind the others, whichever object is first
+    let sum = "02 08 05 00 00 04 FF FF FF FF ";
+    leaf(trial, NEIGHBOUR, &format!("{full}{sum}"), 36);
+    leaf(trial, NEIGHBOUR, &format!("{sum}{full}"), 36);
     let known = Neighbour {
         flags: THROUGHPUT_KNOWN,
         throughput: 1000,
         ..NEIGHBOUR
     };
     leaf(trial, known, "02 08 04 00 00 04 FF FF FC 18", 36);
+}
+
+/// A record in the first of eight full containers takes two bytes more, so that there would be nine;
+/// but where the last has an aggregated metric of unknown type, that is told.
+fn ninth(trial: &mut Trial) {
+    let zeros = "00 ".repeat(122);
+    let first = format!("02 FF 07 00 80 7A {zeros}C8 03 00 7D {zeros}00 00 00 ");
+    let other = format!("02 FF C8 03 00 FB {}", "00 ".repeat(251));
+    leaf(trial, NEIGHBOUR, &(first.clone() + &other.repeat(7)), 35);
+    let last = other.replace("C8 03", "C8 00");
+    leaf(trial, NEIGHBOUR, &(first + &other.repeat(6) + &last), 31);
 }
 
 /// The answer to a call that ends as a leaf, and the output as it was.
@@ -54,5 +68,5 @@ fn leaf(trial: &mut Trial, neighbour: Neighbour, container: &str, number: u8) {
     trial.expect(container, (10, 0, 512), given);
     let given = (answer.leaf, answer.bits, answer.count, answer.size);
     trial.expect(container, (number, 1, 1, 0), given);
-    trial.expect(container, vec![BEFORE; 257], out);
+    trial.expect(container, vec![BEFORE; OUTPUT_ROOM], out);
 }

@@ -6,6 +6,7 @@ mod choices;
 mod colours;
 mod cuts;
 mod editions;
+mod feedings;
 mod findings;
 mod hops;
 mod leaves;
@@ -13,6 +14,8 @@ mod listings;
 mod ranks;
 mod reasons;
 mod refusals;
+mod runs;
+mod sent;
 
 use super::reference::data::*;
 use super::{library, reference};
@@ -57,33 +60,15 @@ struct Trial {
     list: fn(&mut [u8], &mut [u8]) -> usize,
     why: fn(Own, &[Candidate; CANDIDATES], usize, &mut [u8], usize) -> Reason,
     examine: fn(Own, &Candidate, &mut [u8]) -> Finding,
+    /// What is kept of a run that is fed in these parts.
+    keep: fn(&[Vec<u8>]) -> Vec<u8>,
     failed: Vec<String>,
 }
 
-/// The examples that do not hold, of the reference, of the library and of the cut.
+/// The examples that do not hold, of the reference, of the library, of the cut, and of buffers that
+/// are too short.
 pub fn failed() -> Vec<String> {
-    let mut trials = [
-        Trial {
-            name: "the reference",
-            choose: |own, candidates, count, lent, out| {
-                reference::choose(own, candidates, count, lent, out)
-            },
-            list: |container, out| reference::list(container, out),
-            why: |own, candidates, count, lent, position| {
-                reference::why(own, candidates, count, lent, position)
-            },
-            examine: |own, candidate, lent| reference::examine(own, candidate, lent),
-            failed: Vec::new(),
-        },
-        Trial {
-            name: "the library",
-            choose: library::choose,
-            list: library::list,
-            why: library::why,
-            examine: library::examine,
-            failed: Vec::new(),
-        },
-    ];
+    let mut trials = trials();
     for trial in &mut trials {
         ranks::hold(trial);
         refusals::hold(trial);
@@ -96,22 +81,53 @@ pub fn failed() -> Vec<String> {
         listings::hold(trial);
         reasons::hold(trial);
         findings::hold(trial);
+        runs::hold(trial);
+        sent::hold(trial);
+        feedings::hold(trial);
     }
     let [reference, library] = trials.map(|trial| trial.failed);
-    [reference, library, cuts::failed()].concat()
+    [reference, library, cuts::failed(), feedings::short()].concat()
+}
+
+/// Both implementations.
+fn trials() -> [Trial; 2] {
+    [
+        Trial {
+            name: "the reference",
+            choose: |own, candidates, count, lent, out| {
+                reference::choose(own, candidates, count, lent, out)
+            },
+            list: |container, out| reference::list(container, out),
+            why: |own, candidates, count, lent, position| {
+                reference::why(own, candidates, count, lent, position)
+            },
+            examine: |own, candidate, lent| reference::examine(own, candidate, lent),
+            keep: |parts| reference::Kept::of(&parts.concat()).bytes().to_vec(),
+            failed: Vec::new(),
+        },
+        Trial {
+            name: "the library",
+            choose: library::choose,
+            list: library::list,
+            why: library::why,
+            examine: library::examine,
+            keep: feedings::kept_by_library,
+            failed: Vec::new(),
+        },
+    ]
 }
 
 impl Trial {
-    /// One candidate with one container, given in hex, and an output of 257 bytes.
-    fn one(&self, own: Own, neighbour: Neighbour, container: &str) -> (Answer, Vec<u8>) {
-        let mut lent = bytes(container);
+    /// One candidate with this run, given in hex, and an output that is just long enough.
+    fn one(&self, own: Own, neighbour: Neighbour, run: &str) -> (Answer, Vec<u8>) {
+        let mut lent = bytes(run);
         let mut candidates = [Candidate::default(); CANDIDATES];
         candidates[0] = Candidate {
             neighbour,
             start: 0,
             size: lent.len(),
         };
-        let mut out = vec![BEFORE; 257];
+        let mut out = vec![BEFORE; OUTPUT_ROOM];
         let answer = (self.choose)(own, &candidates, 1, &mut lent, &mut out);
         (answer, out)
     }

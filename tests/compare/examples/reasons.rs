@@ -51,6 +51,9 @@ const fn ranked(rank: u16) -> Neighbour {
     Neighbour { rank, ..NEIGHBOUR }
 }
 
+/// Nine containers.
+const NINE: &str = "02 00 02 00 02 00 02 00 02 00 02 00 02 00 02 00 02 00";
+
 /// The highest resulting rank is 1792.
 const BOUND: Own = Own {
     lowest: 1024,
@@ -64,13 +67,14 @@ const FAR: Neighbour = Neighbour {
     ..NEIGHBOUR
 };
 
-/// The candidates of one call: the neighbour, its container, and the reason at its position. An
-/// empty container is one that does not lie in the lent bytes.
+/// The candidates of one call: the neighbour, its run, and the reason at its position. An empty run
+/// is one that does not lie in the lent bytes.
 const KINDS: &[(Neighbour, &str, Reason)] = &[
-    (ranked(512), "02 00", beaten((12, 4, 768, 512))),
+    (ranked(512), "02 00", beaten((13, 4, 768, 512))),
     (FAR, "02 00", barred(11, 65535)),
     (NEIGHBOUR, "", barred(12, 65535)),
-    (NEIGHBOUR, "03 00", barred(13, 65535)),
+    (NEIGHBOUR, "03 01", barred(22, 65535)),
+    (NEIGHBOUR, NINE, barred(23, 65535)),
     (NEIGHBOUR, "02 03 07 00 00", barred(14, 65535)),
     (
         NEIGHBOUR,
@@ -97,7 +101,7 @@ const KINDS: &[(Neighbour, &str, Reason)] = &[
     (ranked(1537), "02 00", barred(21, 65535)),
     // as a leaf: an aggregated metric of unknown type
     (NEIGHBOUR, "02 05 C8 00 00 01 AA", CHOSEN),
-    (NEIGHBOUR, "02 00", beaten((12, 6, 13, 12))),
+    (NEIGHBOUR, "02 00", beaten((13, 6, 14, 13))),
 ];
 
 /// Two candidates, the current position, and why the one that is not the parent is not, in edition
@@ -246,24 +250,24 @@ fn kinds(trial: &mut Trial, edition: u8) {
     let own = Own { edition, ..BOUND };
     let mut candidates = [Candidate::default(); CANDIDATES];
     let mut lent = Vec::new();
-    for (position, &(neighbour, container, _)) in KINDS.iter().enumerate() {
-        let container = bytes(container);
-        let outside = if container.is_empty() { 1000 } else { 0 };
+    for (position, &(neighbour, run, _)) in KINDS.iter().enumerate() {
+        let run = bytes(run);
+        let outside = if run.is_empty() { 1000 } else { 0 };
         candidates[position] = Candidate {
             neighbour,
             start: lent.len() + outside,
-            size: container.len(),
+            size: run.len(),
         };
-        lent.extend(container);
+        lent.extend(run);
     }
     let count = KINDS.len();
-    for (position, &(_, container, reason)) in KINDS.iter().enumerate() {
+    for (position, &(_, run, reason)) in KINDS.iter().enumerate() {
         let given = (trial.why)(own, &candidates, count, &mut lent, position);
-        let name = format!("edition {edition}, position {position}: {container}");
+        let name = format!("edition {edition}, position {position}: {run}");
         trial.expect(&name, reason, given);
     }
     let given = (trial.why)(own, &candidates, count, &mut lent, count);
-    trial.expect("position 14 of 14", refused(6), given);
+    trial.expect("position 15 of 15", refused(6), given);
 }
 
 /// A candidate by itself, whose interface order edition 2 alone reads.

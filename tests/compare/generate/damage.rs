@@ -2,10 +2,11 @@
 
 use super::numbers::other_edition;
 use super::{pattern, Call};
+use crate::options::split;
 use crate::random::Random;
-use crate::reference::data::{Candidate, CANDIDATES, CURRENT_GIVEN};
+use crate::reference::data::{Candidate, CANDIDATES, CURRENT_GIVEN, OUTPUT_ROOM};
 
-/// Changes one byte, mostly one of a container's first bytes, or one bit of it.
+/// Changes one byte, often one of a run's first bytes or of an option's, or one bit of it.
 pub fn byte(random: &mut Random, call: &mut Call) {
     let Some(candidate) = some_candidate(random, call) else {
         return;
@@ -16,6 +17,7 @@ pub fn byte(random: &mut Random, call: &mut Call) {
     let place = match random.below(4) {
         0 => random.below(candidate.size.min(2)),
         1 => random.below(candidate.size.min(8)),
+        2 => head(random, call, &candidate),
         _ => random.below(candidate.size),
     };
     let bit = 1 << random.below(8);
@@ -27,6 +29,16 @@ pub fn byte(random: &mut Random, call: &mut Call) {
         2 => *byte ^ bit,
         _ => any,
     };
+}
+
+/// The index of the type or the length of an option of a run, or of one of the next bytes.
+fn head(random: &mut Random, call: &Call, candidate: &Candidate) -> usize {
+    let (options, _) = split(call.run(candidate).unwrap_or_default());
+    let before = random.below(options.len().max(1));
+    let start: usize = options[..before].iter().map(|option| option.len()).sum();
+    let near = random.below(6);
+    let at = start + random.pick(&[0, 1, 1, near]);
+    at.min(candidate.size - 1)
 }
 
 fn some_candidate(random: &mut Random, call: &Call) -> Option<Candidate> {
@@ -44,7 +56,8 @@ pub fn field(random: &mut Random, call: &mut Call) {
         2 => call.count = random.pick(&[17, 17, 18, 255, 256, 1 << 16, 1 << 32, usize::MAX]),
         3 => current(random, call),
         4 => {
-            let room = random.pick(&[0, 1, 255, 256, 256, 200]);
+            let short = OUTPUT_ROOM - 1;
+            let room = random.pick(&[0, 1, 257, short, short, short - 1]);
             call.out = pattern(random, room);
         }
         5 => several(random, call),
@@ -80,7 +93,7 @@ fn current(random: &mut Random, call: &mut Call) {
 /// Two or more fields at once, so that the order of refusals counts.
 fn several(random: &mut Random, call: &mut Call) {
     current(random, call);
-    call.out.truncate(random.below(300));
+    call.out.truncate(random.below(OUTPUT_ROOM + 50));
     if random.once_in(2) {
         call.count = random.within(0, 17);
     }
@@ -95,7 +108,7 @@ fn edition(random: &mut Random, call: &mut Call) {
     match random.below(16) {
         0 => call.own.minhop = 0,
         1 => call.count = random.within(17, 18),
-        2..=4 => call.out.truncate(random.below(300)),
+        2..=4 => call.out.truncate(random.below(OUTPUT_ROOM + 50)),
         _ => {}
     }
 }
@@ -121,7 +134,7 @@ fn number(random: &mut Random, candidate: &mut Candidate) {
     }
 }
 
-/// A container's place moved by a byte, to the end of the lent run, or far out of it.
+/// A run's place moved by a byte, to the end of the lent bytes, or far out of them.
 fn place(random: &mut Random, candidate: &mut Candidate, lent: usize) {
     let huge = random.edgy_size();
     let complement = usize::MAX - candidate.start;

@@ -1,12 +1,27 @@
 //! Containers that look like containers, though little in them needs to be in order.
 
+use super::MOST_DATA;
 use crate::random::Random;
 
-/// A container of a few headers with bodies of about the right size: bars 13 to 17 are frequent.
+/// A container of such data, its type or length sometimes wrong, or bytes without any order.
 pub fn container(random: &mut Random) -> Vec<u8> {
     if random.once_in(16) {
         return noise(random);
     }
+    let data = data(random);
+    let mut container = vec![2, data.len() as u8];
+    container.extend(data);
+    match random.below(16) {
+        0 => container[0] = random.edgy_byte(),
+        1 => container[1] = container[1].wrapping_add(random.pick(&[1, 255])),
+        2 => container.push(random.byte()),
+        _ => {}
+    }
+    container
+}
+
+/// A few headers with bodies of about the right size: bars 14 to 17 are frequent.
+pub fn data(random: &mut Random) -> Vec<u8> {
     let mut data = Vec::new();
     for _ in 0..random.within(1, 6) {
         object(random, &mut data);
@@ -28,16 +43,8 @@ pub fn container(random: &mut Random) -> Vec<u8> {
         }
         _ => {}
     }
-    data.truncate(255);
-    let mut container = vec![2, data.len() as u8];
-    container.extend(data);
-    match random.below(16) {
-        0 => container[0] = random.edgy_byte(),
-        1 => container[1] = container[1].wrapping_add(random.pick(&[1, 255])),
-        2 => container.push(random.byte()),
-        _ => {}
-    }
-    container
+    data.truncate(MOST_DATA);
+    data
 }
 
 /// An object, mostly of a known type, whose size is mostly one that some type has.

@@ -1,25 +1,35 @@
 //! Random calls: valid, nearly valid, overlapping, malformed, far out of range.
 
 mod body;
+mod broken;
 mod colour;
 mod damage;
+mod fed;
 mod layout;
+mod long;
 mod loose;
 mod numbers;
 mod object;
+mod option;
 mod record;
 mod rivals;
+mod run;
 mod scene;
 mod shared;
 mod site;
+mod spread;
 mod wellformed;
 
 use super::random::Random;
-use super::reference::data::{Candidate, Own, CANDIDATES, CURRENT_GIVEN};
+use super::reference::data::{Candidate, Own, CANDIDATES, CURRENT_GIVEN, OUTPUT_ROOM};
 
+pub use fed::{any_room, any_state, parts};
 pub use layout::lay;
 use scene::Scene;
 pub use site::set_any_site;
+
+/// The most data bytes of a container.
+const MOST_DATA: usize = 255;
 
 /// All that one call is given; `out` is the pattern that the output holds before it.
 #[derive(Clone)]
@@ -37,8 +47,8 @@ impl Call {
         self.candidates.get(..self.count).unwrap_or(&[])
     }
 
-    /// A candidate's container, if it lies in the lent run.
-    pub fn container(&self, candidate: &Candidate) -> Option<&[u8]> {
+    /// A candidate's run of options, if it lies in the lent bytes.
+    pub fn run(&self, candidate: &Candidate) -> Option<&[u8]> {
         let end = candidate.start.checked_add(candidate.size)?;
         self.lent.get(candidate.start..end)
     }
@@ -61,32 +71,31 @@ pub fn call(random: &mut Random) -> Call {
     call
 }
 
-/// A call with numbers in range, whose containers are well-formed but for one in `loose` times
-/// (0: never).
+/// A call with numbers in range, whose runs are well-formed but for one in `loose` times (0: never).
 fn ordered(random: &mut Random, loose: usize) -> Call {
-    let count = numbers::count(random);
     let mut own = numbers::own(random);
+    let scene = Scene::draw(random, &own);
+    let count = numbers::count(random).min(scene.most_candidates());
     own.current = random.below(count.max(1));
     if count == 0 {
         own.flags &= !CURRENT_GIVEN;
     }
-    let scene = Scene::draw(random, &own);
     let mut candidates = numbers::garbage(random);
-    let mut containers = Vec::with_capacity(count);
+    let mut runs = Vec::with_capacity(count);
     for candidate in &mut candidates[..count] {
         candidate.neighbour = numbers::neighbour(random, &own, &scene);
-        containers.push(if loose != 0 && random.once_in(loose) {
-            loose::container(random)
+        runs.push(if loose != 0 && random.once_in(loose) {
+            run::disordered(random, &scene, &own, &candidate.neighbour)
         } else {
-            wellformed::container(random, &scene, &own, &candidate.neighbour)
+            run::ordered(random, &scene, &own, &candidate.neighbour)
         });
     }
     if random.once_in(4) {
         rivals::meet(random, &mut own, &mut candidates[..count]);
     }
-    let lent = lay(random, &containers, &mut candidates[..count]);
-    let any = random.within(257, 300);
-    let room = random.pick(&[257, 257, 258, any]);
+    let lent = lay(random, &runs, &mut candidates[..count]);
+    let any = random.within(OUTPUT_ROOM, OUTPUT_ROOM + 50);
+    let room = random.pick(&[OUTPUT_ROOM, OUTPUT_ROOM, OUTPUT_ROOM + 1, any]);
     let out = pattern(random, room);
     Call {
         own,
@@ -110,7 +119,8 @@ fn unordered(random: &mut Random) -> Call {
         }
     }
     let own = numbers::any_own(random);
-    let room = random.within(0, 300);
+    let short = random.below(OUTPUT_ROOM);
+    let room = random.pick(&[short, short, 257, OUTPUT_ROOM, OUTPUT_ROOM, OUTPUT_ROOM + 1]);
     Call {
         own,
         candidates,
@@ -120,7 +130,9 @@ fn unordered(random: &mut Random) -> Call {
     }
 }
 
-/// Random bytes for the output, so that a byte written anew shows.
+/// Random bytes for an output or a buffer, so that a byte written anew shows.
 pub fn pattern(random: &mut Random, length: usize) -> Vec<u8> {
-    (0..length).map(|_| random.byte()).collect()
+    let mut pattern = vec![0; length];
+    random.scatter(&mut pattern);
+    pattern
 }

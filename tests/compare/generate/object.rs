@@ -105,16 +105,34 @@ impl<'a> Maker<'a> {
         object
     }
 
-    /// An object of unknown type.
-    pub fn unknown(&mut self, room: usize) -> Vec<u8> {
-        let plain = self.random.within(9, 255) as u8;
-        let kind = self.random.pick(&[0, 9, 10, 200, 255, plain, plain]);
-        let most = room.saturating_sub(4);
-        let size = match self.random.below(16) {
-            0 => most,
+    /// The same, but nothing where the type was used in this way before.
+    pub fn known_once(
+        &mut self,
+        used: &mut [bool; 16],
+        kind: u8,
+        role: Role,
+        room: usize,
+    ) -> Vec<u8> {
+        let use_mark = usize::from(kind - 1) + 8 * usize::from(role == Role::Constraint);
+        if std::mem::replace(&mut used[use_mark], true) {
+            return Vec::new();
+        }
+        self.known(kind, role, room)
+    }
+
+    /// The length of a body that is mostly short: none in a room of so many bytes, or all of it.
+    pub fn short_body(&mut self, room: usize) -> usize {
+        match self.random.below(16) {
+            0 => room.saturating_sub(4),
             1 => 0,
             _ => self.random.below(9),
-        };
+        }
+    }
+
+    /// An object of unknown type, with a body of so many bytes.
+    pub fn unknown(&mut self, size: usize) -> Vec<u8> {
+        let plain = self.random.within(9, 255) as u8;
+        let kind = self.random.pick(&[0, 9, 10, 200, 255, plain, plain]);
         let allowed = self.scene.unknown;
         let (role, optional) = match self.random.below(4) {
             0 if allowed >= Unknown::Aggregated => (Role::Aggregated, self.random.once_in(2)),
@@ -128,15 +146,13 @@ impl<'a> Maker<'a> {
         object
     }
 
-    /// Fills the data up to `size` bytes with one harmless object of unknown type, if it fits.
-    pub fn pad(&mut self, data: &mut Vec<u8>, size: usize) {
-        if data.len() + 4 <= size {
-            let body = size - data.len() - 4;
-            let role = self.random.pick(&[Role::Constraint, Role::Recorded]);
-            let kind = self.random.pick(&[0, 9, 255]);
-            data.extend(self.header(kind, role, true, 0, body));
-            data.extend(self.bytes(body));
-        }
+    /// An object of unknown type that neither bars nor ends as a leaf, with a body of so many bytes.
+    pub fn harmless(&mut self, size: usize) -> Vec<u8> {
+        let role = self.random.pick(&[Role::Constraint, Role::Recorded]);
+        let kind = self.random.pick(&[0, 9, 255]);
+        let mut object = self.header(kind, role, true, 0, size);
+        object.extend(self.bytes(size));
+        object
     }
 
     /// A header, with noise in the reserved bits, P, Prec and what its C and R make ignored. For a

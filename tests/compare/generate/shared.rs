@@ -1,6 +1,7 @@
-//! Containers that share bytes: coinciding, one inside another, or overlapping at an end.
+//! Runs that share bytes: coinciding, one inside another, or overlapping at an end.
 
-use super::Call;
+use super::{Call, MOST_DATA};
+use crate::options::split;
 use crate::random::Random;
 
 /// Points some of the candidates at bytes of other candidates.
@@ -8,15 +9,16 @@ pub fn overlap(random: &mut Random, call: &mut Call) {
     if call.count == 0 || call.lent.is_empty() {
         return;
     }
-    match random.below(4) {
+    match random.below(5) {
         0 => coincide(random, call),
         1 => nest(random, call),
         2 => link(random, call),
+        3 => sections(random, call),
         _ => wherever(random, call),
     }
 }
 
-/// All, or some, have the container of one.
+/// All, or some, have the run of one.
 fn coincide(random: &mut Random, call: &mut Call) {
     let one = call.candidates[random.below(call.count)];
     let all = random.once_in(2);
@@ -28,13 +30,13 @@ fn coincide(random: &mut Random, call: &mut Call) {
     }
 }
 
-/// One candidate's container becomes the body of an unknown object in a container around it.
+/// One candidate's run becomes the body of an unknown object in a container around it.
 fn nest(random: &mut Random, call: &mut Call) {
     let inner = call.candidates[random.below(call.count)];
-    if inner.size > 251 {
+    if inner.size > MOST_DATA - 4 {
         return;
     }
-    let Some(bytes) = call.container(&inner).map(<[u8]>::to_vec) else {
+    let Some(bytes) = call.run(&inner).map(<[u8]>::to_vec) else {
         return;
     };
     let start = call.lent.len();
@@ -74,7 +76,28 @@ fn link(random: &mut Random, call: &mut Call) {
     }
 }
 
-/// Any part of the run, mostly where a byte 2 and a length begin it.
+/// Some have options of the run of one, one behind another: from the first on, up to the last, or
+/// between.
+fn sections(random: &mut Random, call: &mut Call) {
+    let one = call.candidates[random.below(call.count)];
+    let (options, _) = split(call.run(&one).unwrap_or_default());
+    let mut ends = vec![0];
+    for option in &options {
+        ends.push(ends[ends.len() - 1] + option.len());
+    }
+    for candidate in &mut call.candidates[..call.count] {
+        let any = random.below(ends.len());
+        let first = random.pick(&[0, any]);
+        let any = random.within(first, ends.len() - 1);
+        let last = random.pick(&[ends.len() - 1, any]);
+        if random.once_in(2) {
+            candidate.start = one.start + ends[first];
+            candidate.size = ends[last] - ends[first];
+        }
+    }
+}
+
+/// Any part of the lent bytes, mostly where a byte 2 and a length begin it.
 fn wherever(random: &mut Random, call: &mut Call) {
     for candidate in &mut call.candidates[..call.count] {
         let start = random.below(call.lent.len());

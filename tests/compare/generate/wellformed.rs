@@ -1,59 +1,68 @@
-//! Well-formed containers: objects of every type and usage, with TLVs and noise in ignored bits.
+//! The objects of well-formed runs: of every type and usage, with TLVs and noise in ignored bits.
 
 use super::body::unit;
 use super::object::{Maker, Role};
 use super::scene::{Length, Scene, Unknown};
+use super::MOST_DATA;
 use crate::random::Random;
 use crate::reference::data::{Neighbour, Own};
 
-/// The most data bytes of a container.
-const MOST: usize = 255;
-
-/// A well-formed container, with limits and values near those of the neighbour and the node.
-pub fn container(random: &mut Random, scene: &Scene, own: &Own, link: &Neighbour) -> Vec<u8> {
-    let data = match random.below(40) {
+/// Objects of so many bytes at most, with limits and values near those of the neighbour and the
+/// node.
+pub fn objects(
+    random: &mut Random,
+    scene: &Scene,
+    own: &Own,
+    link: &Neighbour,
+    room: usize,
+) -> Vec<Vec<u8>> {
+    match random.below(40) {
         0 => Vec::new(),
-        1 => minimal(random, scene),
-        2 => crowded(random),
-        3 => recorded(random, scene, own, link),
-        _ => mixed(random, scene, own, link),
-    };
-    let mut container = vec![2, data.len() as u8];
-    container.extend(data);
-    container
+        1 => minimal(random, scene, room),
+        2 => vec![crowded(random)],
+        3 => vec![recorded(random, scene, own, link)],
+        _ => mixed(random, scene, own, link, room),
+    }
 }
 
 /// Objects of any type and usage in any order, none repeated; a full container has padding.
-fn mixed(random: &mut Random, scene: &Scene, own: &Own, link: &Neighbour) -> Vec<u8> {
-    let objects = match scene.length {
+fn mixed(
+    random: &mut Random,
+    scene: &Scene,
+    own: &Own,
+    link: &Neighbour,
+    room: usize,
+) -> Vec<Vec<u8>> {
+    let count = match scene.length {
         Length::Short => random.within(0, 3),
         Length::Medium => random.within(2, 9),
         Length::Full => random.within(1, 14),
     };
     let mut maker = Maker::new(random, scene, own, link);
-    let mut data = Vec::with_capacity(MOST);
+    let mut objects: Vec<Vec<u8>> = Vec::with_capacity(count + 1);
+    let mut size = 0;
     let mut used = [false; 16];
-    for settled in settle(&mut maker, objects) {
+    for settled in settle(&mut maker, count) {
         let unknown = scene.unknown != Unknown::Absent && maker.random.once_in(4);
+        let left = MOST_DATA.min(room - size);
         let object = if unknown && settled.is_none() {
-            maker.unknown(MOST - data.len())
+            let body = maker.short_body(left);
+            maker.unknown(body)
         } else {
             let (kind, role) = settled.unwrap_or_else(|| maker.kind_and_role());
-            let use_mark = usize::from(kind - 1) + 8 * usize::from(role == Role::Constraint);
-            if std::mem::replace(&mut used[use_mark], true) {
-                continue;
-            }
-            maker.known(kind, role, MOST - data.len())
+            maker.known_once(&mut used, kind, role, left)
         };
-        if data.len() + object.len() <= MOST {
-            data.extend(object);
+        if !object.is_empty() && object.len() <= left {
+            size += object.len();
+            objects.push(object);
         }
     }
-    if scene.length == Length::Full && scene.unknown != Unknown::Absent {
-        let spare = maker.random.pick(&[0, 0, 0, 1, 2, 3, 4, 5, 6, 7, 8]);
-        maker.pad(&mut data, MOST - spare);
+    let spare = maker.random.pick(&[0, 0, 0, 1, 2, 3, 4, 5, 6, 7, 8]);
+    let full = MOST_DATA - spare;
+    if scene.padded() && size + 4 <= full {
+        objects.push(maker.harmless(full - size - 4));
     }
-    data
+    objects
 }
 
 /// The types and roles that are settled for so many objects: often a limit on latency or ETX with
@@ -79,21 +88,23 @@ fn settle(maker: &mut Maker, objects: usize) -> Vec<Option<(u8, Role)>> {
     settled
 }
 
-/// Sixty-odd objects of unknown type and no body: as many as a container holds.
-fn minimal(random: &mut Random, scene: &Scene) -> Vec<u8> {
-    let mut data = Vec::with_capacity(MOST);
-    let objects = random.pick(&[62, 63, 63]);
-    for _ in 0..objects {
+/// Objects of unknown type and no body: as many as containers hold, or nearly.
+fn minimal(random: &mut Random, scene: &Scene, room: usize) -> Vec<Vec<u8>> {
+    let most = room / MOST_DATA * (MOST_DATA / 4);
+    let any = random.within(1, most);
+    let count = random.pick(&[most - 1, most, most, any]);
+    let mut objects: Vec<Vec<u8>> = Vec::with_capacity(count);
+    for _ in 0..count {
         let kind = random.pick(&[0, 9, 10, 200, 255]);
         let flags = random.byte() & 0xFC | random.pick(&[0x00, 0x01, 0x03]);
         let mode = random.byte() | 0x80;
-        data.extend([kind, flags, mode, 0]);
+        objects.push(vec![kind, flags, mode, 0]);
     }
     if scene.unknown == Unknown::Mandatory {
-        let place = 4 * random.below(objects);
-        data[place + 1] = data[place + 1] & 0xFC | 0x02;
+        let place = random.pick(&[0, count / 2, count - 1]);
+        objects[place][1] = objects[place][1] & 0xFC | 0x02;
     }
-    data
+    objects
 }
 
 /// One object with as many TLVs as a body holds, or nearly.
@@ -114,7 +125,7 @@ fn recorded(random: &mut Random, scene: &Scene, own: &Own, link: &Neighbour) -> 
     let kind = random.pick(&[2, 4, 5, 6, 7, 8]);
     let spare = random.pick(&[0, 0, 1, 2, 3, 4, 5, 8]);
     let mut maker = Maker::new(random, scene, own, link);
-    let room = MOST - 4 - spare;
+    let room = MOST_DATA - 4 - spare;
     let body = match kind {
         6 => maker.levels(room - 1).bytes,
         8 => maker.colours((room - 1) / 2).bytes,

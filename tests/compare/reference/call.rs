@@ -1,13 +1,10 @@
-//! The whole call: refusals, a verdict on each candidate, the preferred parent, its container.
+//! The whole call: refusals, a verdict on each candidate, the preferred parent, its containers.
 
-use super::container::Container;
-use super::data::{Answer, Candidate, Own, CANDIDATES, FIRST_EDITION, SECOND_EDITION};
+use super::data::{Answer, Candidate, Own, CANDIDATES, FIRST_EDITION, OUTPUT_ROOM, SECOND_EDITION};
 use super::hop::Hop;
+use super::joined::Joined;
 use super::standing::Standing;
 use super::verdict::verdict;
-
-/// The shortest output that is never too short: a container of 255 data bytes.
-pub const OUTPUT: usize = 257;
 
 /// The verdict number of an unbarred candidate.
 const UNBARRED: u8 = 10;
@@ -15,10 +12,10 @@ const UNBARRED: u8 = 10;
 /// The preferred parent so far.
 pub struct Parent<'a> {
     pub standing: Standing,
-    container: Container<'a>,
+    joined: Joined<'a>,
 }
 
-/// Gives each candidate a verdict, picks a parent and writes the container to send on.
+/// Gives each candidate a verdict, picks a parent and writes the containers to send on.
 pub fn choose(
     own: Own,
     candidates: &[Candidate; CANDIDATES],
@@ -40,7 +37,7 @@ pub fn choose(
         own: &own,
         link: &candidates[position].neighbour,
     };
-    match hop.pass_on(&parent.container, out) {
+    match hop.pass_on(&parent.joined, out) {
         Ok(size) => answer.size = size,
         Err(leaf) => answer.leaf = leaf,
     }
@@ -55,7 +52,7 @@ pub fn refusal(own: &Own, count: usize, room: usize) -> u8 {
         2
     } else if own.current().is_some_and(|current| current >= count) {
         3
-    } else if room < OUTPUT {
+    } else if room < OUTPUT_ROOM {
         4
     } else if !matches!(own.edition, FIRST_EDITION | SECOND_EDITION) {
         5
@@ -74,7 +71,7 @@ pub fn preferred<'a>(
 ) -> Option<Parent<'a>> {
     let mut best: Option<Parent> = None;
     for (position, candidate) in candidates.iter().enumerate() {
-        let (rank, container) = match verdict(own, candidate, lent) {
+        let (rank, joined) = match verdict(own, candidate, lent) {
             Ok(unbarred) => unbarred,
             Err(bar) => {
                 answer.verdicts[position] = bar.number;
@@ -86,10 +83,7 @@ pub fn preferred<'a>(
         answer.bits |= 1 << position;
         let standing = Standing::new(own, &candidate.neighbour, rank, position);
         if best.as_ref().is_none_or(|best| standing < best.standing) {
-            best = Some(Parent {
-                standing,
-                container,
-            });
+            best = Some(Parent { standing, joined });
         }
     }
     answer.count = answer.bits.count_ones() as u8;

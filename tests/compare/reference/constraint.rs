@@ -1,32 +1,32 @@
 //! When a constraint of a known type is met.
 
 use super::colour;
-use super::container::Container;
 use super::data::{Neighbour, AGGREGATOR, OVERLOADED};
+use super::joined::Joined;
 use super::object::{Object, COLOUR, ETX, HP, LATENCY, LQL, NE, NSA, THROUGHPUT};
 
 /// The I bit and the E bit of an NE flags byte; T stands between them.
 pub const INCLUDED: u8 = 0x08;
 pub const ESTIMATED: u8 = 0x01;
 
-/// Whether the neighbour meets a known constraint of a well-formed container. What is unknown
-/// meets no limit.
-pub fn met(constraint: &Object, neighbour: &Neighbour, container: &Container) -> bool {
+/// Whether the neighbour meets a known constraint of well-formed containers. What is unknown meets
+/// no limit.
+pub fn met(constraint: &Object, neighbour: &Neighbour, joined: &Joined) -> bool {
     let body = constraint.body;
     match constraint.kind {
         NSA => state_met(body[1], neighbour.flags),
         NE => energy_met(body[0], body[1], neighbour),
-        HP => container.hops.is_some_and(|count| count < body[1]),
+        HP => joined.hops.is_some_and(|count| count < body[1]),
         THROUGHPUT => neighbour
             .throughput()
             .is_some_and(|link| link >= long(body)),
         LATENCY => neighbour.latency().is_some_and(|link| {
-            let received = container.sum(LATENCY).map_or(0, long);
+            let received = joined.sum(LATENCY).map_or(0, long);
             sum_met(received, link, long(body))
         }),
         LQL => (1..=body[1] >> 5).contains(&neighbour.lql),
         ETX => neighbour.etx().is_some_and(|link| {
-            let received = container.sum(ETX).map_or(0, word);
+            let received = joined.sum(ETX).map_or(0, word);
             sum_met(received.into(), link.into(), word(body).into())
         }),
         COLOUR => colour::met(word(&body[1..]), neighbour.colour),

@@ -5,6 +5,15 @@ pub const NO_PARENT: u8 = 255;
 pub const NO_RANK: u16 = 65535;
 pub const NO_PLACE: u16 = 65535;
 
+/// The most containers of a run, and of what is sent on; the bytes that hold these, and those that
+/// hold what is kept of a run that is fed in parts.
+pub const CONTAINERS: usize = 8;
+pub const OUTPUT_ROOM: usize = 2056;
+pub const KEPT_ROOM: usize = 2059;
+
+/// The phase after a part that came with a buffer under `KEPT_ROOM` bytes.
+pub const FED_SHORT: u8 = 255;
+
 /// The editions: by what unbarred candidates are compared.
 pub const FIRST_EDITION: u8 = 1;
 pub const SECOND_EDITION: u8 = 2;
@@ -91,7 +100,7 @@ impl Neighbour {
     }
 }
 
-/// A neighbour, and the place of its container in the lent run.
+/// A neighbour, and the place of its run of options in the lent bytes.
 #[repr(C)]
 #[derive(Clone, Copy, Debug, Default, PartialEq, Eq)]
 pub struct Candidate {
@@ -169,4 +178,16 @@ pub struct Finding {
     pub which: u64,
     pub asked: u64,
     pub found: u64,
+}
+
+/// What was fed of a run so far; all zeros before the first part. Only the size says something to
+/// callers, and the phase where it is `FED_SHORT`.
+#[repr(C)]
+#[derive(Clone, Copy, Debug, Default, PartialEq, Eq)]
+pub struct Fed {
+    pub size: u16,
+    pub phase: u8,
+    pub keep: u8,
+    pub missing: u8,
+    pub count: u8,
 }

@@ -1,32 +1,35 @@
-//! The finding: in what way a candidate that is barred by 11 to 14 falls short. What a constraint
-//! finds, bar 19, is in `unmet`.
+//! The finding: in what way a candidate that is barred by 11, 12, 14, 22 or 23 falls short. What a
+//! constraint finds, bar 19, is in `unmet`.
 
 use super::colour::HIGHEST;
-use super::container::{Container, OPTION_TYPE};
-use super::data::{Candidate, Finding, Neighbour, Own, SECOND_EDITION};
+use super::data::{Candidate, Finding, Neighbour, Own, CONTAINERS, SECOND_EDITION};
+use super::joined::{containers, Joined};
+use super::object::Objects;
+use super::option::{Options, HEAD};
 use super::unmet::unmet;
 use super::verdict::{part, verdict, HIGHEST_ORDER, HIGHEST_PREFERENCE};
 use super::way;
 
-/// The least bytes of a container, and the bytes of an object's header.
-const LEAST: u64 = 2;
+/// The bytes of an object's header.
 const HEADER: u64 = 4;
 
 /// How many of the numbers with a range edition 1 reads: the first.
 const READ_BY_FIRST: usize = 6;
 
-/// Tells what was asked of a candidate that is barred by 11 to 14 or 19, and what was found.
+/// Tells what was asked of a candidate that is barred by 11, 12, 14, 19, 22 or 23, and what was
+/// found.
 pub fn examine(own: Own, candidate: &Candidate, lent: &[u8]) -> Finding {
     let Err(bar) = verdict(&own, candidate, lent) else {
         return Finding::default();
     };
-    let bytes = part(candidate, lent).unwrap_or(&[]);
+    let run = part(candidate, lent).unwrap_or(&[]);
     match bar.number {
         11 => out_of_range(own.edition, &candidate.neighbour),
         12 => outside(candidate, lent),
-        13 => misframed(bytes),
-        14 => cut_short(&bytes[2..]),
-        19 => at_object(bytes, bar.place, &candidate.neighbour),
+        14 => object_cut(run),
+        19 => at_object(run, bar.place, &candidate.neighbour),
+        22 => option_cut(run),
+        23 => too_many(run),
         _ => Finding::default(),
     }
 }
@@ -66,7 +69,7 @@ fn out_of_range(edition: u8, neighbour: &Neighbour) -> Finding {
     Finding::default()
 }
 
-/// Where a container stands that does not lie in the lent run.
+/// Where a run stands that does not lie in the lent bytes.
 fn outside(candidate: &Candidate, lent: &[u8]) -> Finding {
     Finding {
         way: way::OUTSIDE,
@@ -76,56 +79,62 @@ fn outside(candidate: &Candidate, lent: &[u8]) -> Finding {
     }
 }
 
-/// What is wrong with the first two bytes of a container.
-fn misframed(bytes: &[u8]) -> Finding {
-    let (way, asked, found) = match bytes {
-        [] | [_] => (way::SHORT, LEAST, bytes.len() as u64),
-        [first, ..] if *first != OPTION_TYPE => {
-            (way::FIRST_BYTE, u64::from(OPTION_TYPE), u64::from(*first))
-        }
-        [_, length, data @ ..] => (way::DATA, u64::from(*length), data.len() as u64),
+/// The option that is cut short: its type and length, or its data.
+fn option_cut(run: &[u8]) -> Finding {
+    let mut options = Options { rest: run };
+    options.by_ref().for_each(drop);
+    let rest = options.rest;
+    let (way, asked, found) = match rest {
+        [_, length, data @ ..] => (way::OPTION_DATA, u64::from(*length), data.len() as u64),
+        _ => (way::OPTION, HEAD as u64, rest.len() as u64),
     };
     Finding {
         way,
-        which: 0,
+        which: (run.len() - rest.len()) as u64,
         asked,
         found,
     }
 }
 
-/// The first object whose header or body runs past the end of the data.
-fn cut_short(data: &[u8]) -> Finding {
-    let mut rest = data;
-    let mut which = 0;
-    loop {
-        let [_, _, _, length, behind @ ..] = rest else {
-            return Finding {
-                way: way::HEADER,
-                which,
-                asked: HEADER,
-                found: rest.len() as u64,
-            };
-        };
-        let Some(next) = behind.get(usize::from(*length)..) else {
-            return Finding {
-                way: way::BODY,
-                which,
-                asked: (*length).into(),
-                found: behind.len() as u64,
-            };
-        };
-        rest = next;
-        which += 1;
+/// How many containers there are.
+fn too_many(run: &[u8]) -> Finding {
+    Finding {
+        way: way::CONTAINERS,
+        which: 0,
+        asked: CONTAINERS as u64,
+        found: containers(run).count() as u64,
     }
 }
 
-/// What the constraint at a place of a well-formed container finds.
-fn at_object(bytes: &[u8], place: u16, neighbour: &Neighbour) -> Finding {
-    let Ok(container) = Container::read(bytes) else {
+/// The first object whose header or body runs past the end of its container.
+fn object_cut(run: &[u8]) -> Finding {
+    let mut which = 0;
+    for data in containers(run) {
+        let mut objects = Objects::of(data);
+        which += objects.by_ref().count() as u64;
+        let (way, asked, found) = match objects.rest {
+            [] => continue,
+            [_, _, _, length, body @ ..] => (way::BODY, u64::from(*length), body.len()),
+            header => (way::HEADER, HEADER, header.len()),
+        };
+        let found = found as u64;
+        return Finding {
+            way,
+            which,
+            asked,
+            found,
+        };
+    }
+    Finding::default()
+}
+
+/// What the constraint at a place of well-formed containers finds.
+fn at_object(run: &[u8], place: u16, neighbour: &Neighbour) -> Finding {
+    let Ok(joined) = Joined::read(run) else {
         return Finding::default();
     };
-    match container.objects().nth(place.into()) {
-        Some(constraint) => unmet(&constraint, neighbour, &container),
+    match joined.objects().nth(place.into()) {
+        Some(constraint) => unmet(&constraint, neighbour, &joined),
         None => Finding::default(),
     }
 }

@@ -1,13 +1,15 @@
-//! The parent's container is updated for this hop, or the node joins as a leaf (31 to 36).
+//! The parent's containers are updated for this hop, or the node joins as a leaf (31 to 36).
 
 use super::colour;
 use super::constraint::{long, word};
-use super::container::{Container, OPTION_TYPE};
 use super::data::{Neighbour, Own, AGGREGATOR, OVERLOADED};
+use super::filling::Filling;
+use super::joined::Joined;
 use super::object::{
     Object, Usage, COLOUR, CONSTRAINT, ETX, HP, LATENCY, LQL, NE, NSA, OPTIONAL, PARTIAL, RECORDED,
     THROUGHPUT,
 };
+use super::option::{CONTAINER, HEAD};
 use super::reserved::clear_reserved;
 
 /// The E bit of an NE flags byte.
@@ -23,22 +25,40 @@ pub struct Hop<'a> {
 }
 
 impl Hop<'_> {
-    /// Writes the outgoing container and gives its size, or a leaf number and writes nothing.
-    pub fn pass_on(&self, container: &Container, out: &mut [u8]) -> Result<u16, u8> {
-        let mut data = container.data.len();
-        for object in container.objects() {
+    /// Writes the outgoing containers and gives their size, or a leaf number and writes nothing.
+    pub fn pass_on(&self, joined: &Joined, out: &mut [u8]) -> Result<u16, u8> {
+        let mut filling = Filling::new();
+        // 35 waits: another leaf number of a later object goes before it
+        let mut filled = Ok(false);
+        for object in joined.objects() {
             if let Some(number) = self.leaf(&object) {
                 return Err(number);
             }
-            data += self.growth(&object);
+            filled = filled.and_then(|_| filling.add(self.size(&object)));
         }
-        out[1] = u8::try_from(data).map_err(|_| 35)?;
-        out[0] = OPTION_TYPE;
-        let mut at = 2;
-        for object in container.objects() {
+        filled?;
+        self.write_all(joined, out)
+    }
+
+    /// Writes the containers, which hold all objects.
+    fn write_all(&self, joined: &Joined, out: &mut [u8]) -> Result<u16, u8> {
+        let mut filling = Filling::new();
+        let mut open = 0;
+        let mut at = put(out, &[CONTAINER, 0]);
+        for object in joined.objects() {
+            if filling.add(self.size(&object))? {
+                open = at;
+                at += put(&mut out[open..], &[CONTAINER, 0]);
+            }
             at += self.write(&object, &mut out[at..]);
+            out[open + 1] = (at - open - HEAD) as u8;
         }
         Ok(at as u16)
+    }
+
+    /// The size of an object as it is sent on.
+    pub fn size(&self, object: &Object) -> usize {
+        4 + object.body.len() + self.growth(object)
     }
 
     /// The lowest of leaf numbers 31 to 34 and 36 that an object gives.

@@ -1,7 +1,8 @@
-//! The listing: a line per object, or the bar that the container gives.
+//! The listing of one container: a line per object, or the bar that it gives, of 13 to 17.
 
-use super::container::Container;
+use super::joined::{Bar, Joined};
 use super::object::{CONSTRAINT, OPTIONAL, RECORDED};
+use super::option::CONTAINER;
 
 /// Room for any listing: at most 63 lines of 17 bytes.
 pub const LISTING_ROOM: usize = 1100;
@@ -13,9 +14,9 @@ pub fn list(container: &[u8], out: &mut [u8]) -> usize {
         return usize::MAX;
     }
     let mut text = Text { out, size: 0 };
-    match Container::read(container) {
-        Ok(container) => {
-            for object in container.objects() {
+    match read(container) {
+        Ok(joined) => {
+            for object in joined.objects() {
                 text.line(&[
                     object.kind,
                     u8::from(object.flags & CONSTRAINT != 0),
@@ -33,6 +34,14 @@ pub fn list(container: &[u8], out: &mut [u8]) -> usize {
         }
     }
     text.size
+}
+
+/// Reads what is to be one container and nothing else.
+fn read(bytes: &[u8]) -> Result<Joined<'_>, Bar> {
+    match bytes {
+        [CONTAINER, length, data @ ..] if usize::from(*length) == data.len() => Joined::read(bytes),
+        _ => Err(Bar::whole(13)),
+    }
 }
 
 struct Text<'a> {

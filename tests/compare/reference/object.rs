@@ -1,4 +1,4 @@
-//! One object: its header bits, its body's shape, and bars 15 to 17.
+//! The objects of a container: header bits, the body's shape, and bars 15 to 17.
 
 pub const NSA: u8 = 1;
 pub const NE: u8 = 2;
@@ -33,6 +33,34 @@ pub struct Object<'a> {
     pub flags: u8,
     pub mode: u8,
     pub body: &'a [u8],
+}
+
+/// The objects of a container in order; where a header or body runs past the end it stops, with a
+/// rest left.
+pub struct Objects<'a> {
+    pub rest: &'a [u8],
+}
+
+impl<'a> Objects<'a> {
+    pub fn of(data: &'a [u8]) -> Objects<'a> {
+        Objects { rest: data }
+    }
+}
+
+impl<'a> Iterator for Objects<'a> {
+    type Item = Object<'a>;
+
+    fn next(&mut self) -> Option<Object<'a>> {
+        let (&[kind, flags, mode, length], rest) = self.rest.split_first_chunk()?;
+        let (body, rest) = rest.split_at_checked(usize::from(length))?;
+        self.rest = rest;
+        Some(Object {
+            kind,
+            flags,
+            mode,
+            body,
+        })
+    }
 }
 
 impl Object<'_> {

@@ -1,7 +1,7 @@
 //! The reason at a position: why the candidate there is the parent, or is not.
 
-use super::call::{preferred, refusal, OUTPUT};
-use super::data::{Answer, Candidate, Own, Reason, CANDIDATES, SECOND_EDITION};
+use super::call::{preferred, refusal};
+use super::data::{Answer, Candidate, Own, Reason, CANDIDATES, OUTPUT_ROOM, SECOND_EDITION};
 use super::rank::resulting;
 use super::verdict::verdict;
 
@@ -31,7 +31,7 @@ pub fn why(
     lent: &[u8],
     position: usize,
 ) -> Reason {
-    match refusal(&own, count, OUTPUT) {
+    match refusal(&own, count, OUTPUT_ROOM) {
         0 if position < count => at(&own, &candidates[..count], lent, position),
         0 => Reason::bare(NO_SUCH_POSITION, REFUSED),
         number => Reason::bare(number, REFUSED),

@@ -2,22 +2,22 @@
 
 use super::colour;
 use super::constraint::{long, word, ESTIMATED, INCLUDED};
-use super::container::Container;
 use super::data::{Finding, Neighbour, AGGREGATOR};
+use super::joined::Joined;
 use super::object::{Object, COLOUR, ETX, HP, LATENCY, LQL, NE, NSA, THROUGHPUT};
 use super::way;
 
 /// The finding of a constraint that the neighbour does not meet.
-pub fn unmet(constraint: &Object, neighbour: &Neighbour, container: &Container) -> Finding {
+pub fn unmet(constraint: &Object, neighbour: &Neighbour, joined: &Joined) -> Finding {
     let body = constraint.body;
     match constraint.kind {
         NSA => state(body[1], neighbour.flags),
         NE => energy(body[0], body[1], neighbour),
-        HP => hops(body[1], container.hops),
+        HP => hops(body[1], joined.hops),
         THROUGHPUT => throughput(long(body), neighbour.throughput()),
-        LATENCY => latency(long(body), neighbour.latency(), container),
+        LATENCY => latency(long(body), neighbour.latency(), joined),
         LQL => quality(body[1] >> 5, neighbour.lql),
-        ETX => etx(word(body), neighbour.etx(), container),
+        ETX => etx(word(body), neighbour.etx(), joined),
         COLOUR => link_colour(word(&body[1..]), neighbour.colour),
         _ => Finding::default(),
     }
@@ -87,14 +87,14 @@ fn throughput(limit: u32, link: Option<u32>) -> Finding {
     }
 }
 
-fn latency(limit: u32, link: Option<u32>, container: &Container) -> Finding {
-    let received = container.sum(LATENCY).map_or(0, long);
+fn latency(limit: u32, link: Option<u32>, joined: &Joined) -> Finding {
+    let received = joined.sum(LATENCY).map_or(0, long);
     let ways = [way::LATENCY, way::PATH_LATENCY, way::UNKNOWN_LATENCY];
     path(ways, limit.into(), received.into(), link.map(u64::from))
 }
 
-fn etx(limit: u16, link: Option<u16>, container: &Container) -> Finding {
-    let received = container.sum(ETX).map_or(0, word);
+fn etx(limit: u16, link: Option<u16>, joined: &Joined) -> Finding {
+    let received = joined.sum(ETX).map_or(0, word);
     let ways = [way::ETX, way::PATH_ETX, way::UNKNOWN_ETX];
     path(ways, limit.into(), received.into(), link.map(u64::from))
 }

@@ -1,31 +1,31 @@
-//! The verdict on one candidate: its container and resulting rank, or the first bar.
+//! The verdict on one candidate: its containers and resulting rank, or the first bar.
 
 use super::colour::HIGHEST;
 use super::constraint::met;
-use super::container::{Bar, Container};
 use super::data::{Candidate, Neighbour, Own, SECOND_EDITION};
+use super::joined::{Bar, Joined};
 use super::rank::allowed;
 
 /// The highest interface order, and the highest root preference.
 pub const HIGHEST_ORDER: u8 = 7;
 pub const HIGHEST_PREFERENCE: u8 = 7;
 
-/// Bars 11 to 21 in document 01's order.
+/// The bars in their order: 11, 12, 22, 23, 14 to 21.
 pub fn verdict<'a>(
     own: &Own,
     candidate: &Candidate,
     lent: &'a [u8],
-) -> Result<(u16, Container<'a>), Bar> {
+) -> Result<(u16, Joined<'a>), Bar> {
     let neighbour = &candidate.neighbour;
     if !in_range(own.edition, neighbour) {
         return Err(Bar::whole(11));
     }
-    let container = Container::read(part(candidate, lent).ok_or(Bar::whole(12))?)?;
-    if let Some(bar) = first_unmet(&container, neighbour) {
+    let joined = Joined::read(part(candidate, lent).ok_or(Bar::whole(12))?)?;
+    if let Some(bar) = first_unmet(&joined, neighbour) {
         return Err(bar);
     }
     match allowed(own, neighbour) {
-        Ok(rank) => Ok((rank, container)),
+        Ok(rank) => Ok((rank, joined)),
         Err(number) => Err(Bar::whole(number)),
     }
 }
@@ -42,22 +42,22 @@ fn in_range(edition: u8, neighbour: &Neighbour) -> bool {
             || neighbour.order <= HIGHEST_ORDER && neighbour.preference <= HIGHEST_PREFERENCE)
 }
 
-/// The candidate's part of the lent run, if it lies inside; a sum beyond 64 bits does not.
+/// The candidate's run, if it lies in the lent bytes; a sum beyond 64 bits does not.
 pub fn part<'a>(candidate: &Candidate, lent: &'a [u8]) -> Option<&'a [u8]> {
     let end = candidate.start.checked_add(candidate.size)?;
     lent.get(candidate.start..end)
 }
 
 /// The first mandatory constraint of unknown type (18), or known and not met (19).
-fn first_unmet(container: &Container, neighbour: &Neighbour) -> Option<Bar> {
-    for (place, object) in container.objects().enumerate() {
+fn first_unmet(joined: &Joined, neighbour: &Neighbour) -> Option<Bar> {
+    for (place, object) in joined.objects().enumerate() {
         if !object.mandatory() {
             continue;
         }
         if !object.known() {
             return Some(Bar::at(18, place));
         }
-        if !met(&object, neighbour, container) {
+        if !met(&object, neighbour, joined) {
             return Some(Bar::at(19, place));
         }
     }

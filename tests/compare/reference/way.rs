@@ -13,11 +13,6 @@ pub const PREFERENCE: u8 = 8;
 /// Bar 12.
 pub const OUTSIDE: u8 = 9;
 
-/// Bar 13.
-pub const SHORT: u8 = 10;
-pub const FIRST_BYTE: u8 = 11;
-pub const DATA: u8 = 12;
-
 /// Bar 14.
 pub const HEADER: u8 = 13;
 pub const BODY: u8 = 14;
@@ -57,3 +52,10 @@ pub const UNKNOWN_QUALITY: u8 = 34;
 /// Bar 19, colour.
 pub const LACKS_COLOUR: u8 = 35;
 pub const HAS_COLOUR: u8 = 36;
+
+/// Bar 22: an option's type and length, and its data.
+pub const OPTION: u8 = 37;
+pub const OPTION_DATA: u8 = 38;
+
+/// Bar 23.
+pub const CONTAINERS: u8 = 39;

@@ -21,7 +21,9 @@ nothing-requires c κs = search needs
 
 returns : tie.Need-returns
 unfolding findingOf
-returns c = rw (sym (c .before .before .before .before .judge .ensures) ∙ c .before .before .number .given .1) (c .of-bar .ensures)
+returns c =
+    let v = sym (c .before .before .before .before .judge .ensures) ∙ c .before .before .number .given .1 in
+    rw v (c .of-bar .ensures v)
 
 returns-2 : tie.Need-returns-2
 unfolding findingOf

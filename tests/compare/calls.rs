@@ -1,16 +1,17 @@
-//! A run of many calls.
+//! Many calls, each with all that is tried of it.
 
 use super::arguments::Arguments;
 use super::compare::{Given, ListingDifference};
 use super::generate::{self, Call};
-use super::pairs::Wrong;
+use super::options::containers;
 use super::random::Random;
 use super::reference::LISTING_ROOM;
 use super::replay::Place;
 use super::report::{Report, ASKED_FROM};
-use super::{compare, examine, first_edition, pairs, why};
+use super::wrong::Wrong;
+use super::{compare, examine, feeding, first_edition, pairs, sent, states, why};
 
-/// A run stops after so many differences.
+/// The program stops after so many differences.
 const MOST_DIFFERENCES: usize = 5;
 
 /// What the random streams of a call are for; each use has its own.
@@ -20,9 +21,16 @@ const LISTING: u64 = 2;
 const PAIR: u64 = 3;
 const UNREAD: u64 = 4;
 const TOLD: u64 = 5;
+const FED: u64 = 6;
+
+/// A container is listed once in so many runs.
+const LISTED_ONCE_IN: usize = 3;
 
 /// Reasons and findings are asked for once in so many calls.
 const TOLD_ONCE_IN: usize = 4;
+
+/// States of any bits are fed once in so many calls.
+const STATES_ONCE_IN: usize = 8;
 
 /// Says which call was tried, should the program panic in it.
 struct Trying<'a>(&'a Place);
@@ -56,19 +64,18 @@ pub fn run(arguments: &Arguments) -> bool {
     }
     report.print();
     println!("differences: {differences}");
-    let too_seldom = if arguments.count < ASKED_FROM {
-        Vec::new()
-    } else {
-        report.too_seldom()
-    };
-    for line in &too_seldom {
+    let mut wrong = report.wrongly();
+    if arguments.count >= ASKED_FROM {
+        wrong.extend(report.too_seldom());
+    }
+    for line in &wrong {
         println!("{line}");
     }
-    differences == 0 && too_seldom.is_empty()
+    differences == 0 && wrong.is_empty()
 }
 
-/// Tries one call, the listings of its containers, its pairs and what is told of it, up to the
-/// first difference, which is printed; tells whether there was none.
+/// Tries one call, the listings of its containers, its pairs, its runs fed in parts and what is told
+/// of it, up to the first difference, which is printed; tells whether there was none.
 fn one(place: &Place, report: &mut Report) -> bool {
     let _trying = Trying(place);
     let stream = |usage| Random::of(place.seed, place.call, usage);
@@ -80,6 +87,11 @@ fn one(place: &Place, report: &mut Report) -> bool {
             return false;
         }
     };
+    if let Some(what) = sent::check(&given) {
+        let (call, given) = (Box::new(call), Box::new(given));
+        place.wrong(&Wrong::Sent(what, call, given));
+        return false;
+    }
     report.choice(&call, &given);
     if let Err(difference) = listings(&mut stream(LISTING), &call, report) {
         place.listing(&difference);
@@ -92,8 +104,8 @@ fn one(place: &Place, report: &mut Report) -> bool {
     true
 }
 
-/// Tries the pairs that a call is the first of, demand 3's and what edition 1 does not read, and of
-/// some calls what is told.
+/// Tries the pairs that a call is the first of: demand 3's, what edition 1 does not read, and what
+/// is kept of its runs; and of some calls what is told, and states of any bits.
 fn beside(
     stream: impl Fn(u64) -> Random,
     call: &Call,
@@ -101,10 +113,15 @@ fn beside(
     report: &mut Report,
 ) -> Result<(), Wrong> {
     if let Some(sort) = pairs::check(&mut stream(PAIR), call, given)? {
-        report.pair(&sort);
+        report.pairs.note(&sort);
     }
     if first_edition::check(&mut stream(UNREAD), call, given)? {
-        report.first_edition(&given.answer);
+        report.pairs.first_edition(&given.answer);
+    }
+    let mut random = stream(FED);
+    feeding::check(&mut random, call, given, &mut report.feedings)?;
+    if random.once_in(STATES_ONCE_IN) {
+        states::check(&mut random, call, &mut report.feedings).map_err(Wrong::Feed)?;
     }
     let mut random = stream(TOLD);
     if random.once_in(TOLD_ONCE_IN) {
@@ -122,7 +139,8 @@ fn told(random: &mut Random, call: &Call, given: &Given, report: &mut Report) ->
         .map_err(|difference| Wrong::Told(Box::new(call.clone()), Box::new(difference)))
 }
 
-/// Lists the call's containers, and one part of the lent run that need not be a container.
+/// Lists one container of some runs of a call, or now and then the run, or a part of the lent bytes
+/// that need not be either.
 fn listings(
     random: &mut Random,
     call: &Call,
@@ -137,9 +155,16 @@ fn listings(
     let pattern = generate::pattern(random, room);
     let start = random.within(0, call.lent.len());
     let end = random.within(start, call.lent.len());
-    let within = call.given().iter().filter_map(|one| call.container(one));
-    for container in within.chain([&call.lent[start..end]]) {
-        report.listing(&compare::listing(random, container, &pattern)?);
+    let runs = call.given().iter().filter_map(|one| call.run(one));
+    for run in runs.chain([&call.lent[start..end]]) {
+        if !random.once_in(LISTED_ONCE_IN) {
+            continue;
+        }
+        let listed = match containers(run) {
+            Some(all) if !all.is_empty() && !random.once_in(8) => random.pick(&all),
+            _ => run,
+        };
+        report.listing(&compare::listing(random, listed, &pattern)?);
     }
     Ok(())
 }

@@ -1,12 +1,13 @@
 use mathlib.Core.Path.{sym, _∙_}
 use borrow.Author.Needs.{needs}
-use Rattle.model.specs.Reading.{reading}
+use Rattle.model.specs.Run.{readRun}
+use Rattle.model.proofs.RunLaws.{run-objects}
 use Rattle.reason.proofs.WalkLaws.{refused-unmet, read-unmet}
-use Rattle.reason.proofs.bars.unmet.Statement.{statement}
-use Rattle.reason.proofs.bars.unmet.Tie as tie
+use Rattle.reason.proofs.objects.unmet.Statement.{statement}
+use Rattle.reason.proofs.objects.unmet.Tie as tie
 
-read-requires : tie.Need-read-requires
-read-requires c κs = search needs
+read-run-requires : tie.Need-read-run-requires
+read-run-requires c κs = search needs
 
 enum-told : tie.Need-enum-told
 enum-told c = search needs
@@ -23,18 +24,18 @@ at-object-requires c κs = search needs
 returns : tie.Need-returns
 returns c =
     let args = c .before .before .before .before .before .args in
-    c .nothing .ensures ∙ refused-unmet (args .neighbour) (reading (args .container .now)) (args .place) (sym (c .before .before .before .read .ensures) ∙ c .before .enum-told .given .1)
+    c .nothing .ensures ∙ refused-unmet (args .neighbour) (readRun (args .run .now)) (args .place) (sym (c .before .before .before .read-run .ensures) ∙ c .before .enum-told .given .1)
 
 returns-2 : tie.Need-returns-2
 returns-2 c =
     let args = c .before .before .before .before .before .before .args in
-    read-unmet (args .neighbour) (reading (args .container .now)) (args .place) (sym (c .before .before .before .before .read .ensures) ∙ c .before .before .told .given .1) (c .at-object .ensures)
+    read-unmet (args .neighbour) (readRun (args .run .now)) (args .place) (sym (c .before .before .before .before .read-run .ensures) ∙ c .before .before .told .given .1) (λ os read. c .at-object .ensures os (run-objects _ os read .objects))
 
 pub unmet-spec : {M : Type 1} → statement M
 unmet-spec =
     tie.close
     (tie.spec
-    read-requires
+    read-run-requires
     enum-told
     nothing-requires
     enum-known-told
