@@ -8,15 +8,24 @@ use mathlib.Core.Option.{Option, none, some, Option·none-ne-some}
 use lib.ListN.{length, take, drop, length-drop, take-append-drop}
 use lib.Seq.{slice, length-slice, length-take-le, take-add, take-at, drop-at, drop-append-le}
 use borrow.Author.Tests.{le-leb}
-use Rattle.model.specs.Object.{Object, before, split, join, bytesOf}
+use Rattle.model.specs.Object.{Object, before, split, join, bytesOf, behind}
 use Rattle.model.specs.Run.{joined, runObjects}
-use Rattle.model.proofs.ObjectLaws.{behind, split-append, split-join, join-split}
+use Rattle.model.proofs.ObjectLaws.{split-append, split-join, join-split}
 use Rattle.wire.specs.declared.objects.Header.{Header}
 use Rattle.wire.specs.declared.objects.Cursor.{Cursor}
 use Rattle.wire.specs.declared.objects.Step.the-variants.{Found, CutShort, End}
 use Rattle.wire.specs.Step.{stepAt, objectIn}
 use Rattle.wire.specs.Walk.{Inside, objectsFrom}
 use Rattle.wire.proofs.StepLaws.{found, bytes-at, split-found, split-short, split-end}
+
+-- objects before none, and before others
+pub behind-nil : (r : Option (List Object)) → r ≡ behind [] r
+behind-nil none = refl
+behind-nil (some os) = refl
+
+pub behind-behind : (es os : List Object) (r : Option (List Object)) → behind es (behind os r) ≡ behind (es ++ os) r
+behind-behind es os none = refl
+behind-behind es os (some ps) = ap some (sym (append-assoc es os ps))
 
 -- ---- a pass over bytes, from a cursor on
 
@@ -25,11 +34,7 @@ abbrev pub Within : List ℕ → (from k : Cursor) → (earlier : List Object) �
 Within bs from k es = split (drop (from .at) bs) ≡ behind es (split (drop (k .at) bs))
 
 pub within-first : (bs : List ℕ) (k : Cursor) → Within bs k k []
-within-first bs k = go (split (drop (k .at) bs))
-  where
-    go : (r : Option (List Object)) → r ≡ behind [] r
-    go none = refl
-    go (some os) = refl
+within-first bs k = behind-nil (split (drop (k .at) bs))
 
 module _ (bs : List ℕ) (from k : Cursor) (es : List Object) (w : Within bs from k es) where
   module _ {h : Header} {start end : ℕ} {n : Cursor} (e : stepAt bs k ≡ Found h start end n) where

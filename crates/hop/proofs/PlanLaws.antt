@@ -11,10 +11,10 @@ use borrow.Author.Tests.{lt-ltb, le-ltb}
 use Rattle.model.specs.declared.Own.{Own}
 use Rattle.model.specs.declared.Neighbour.{Neighbour}
 use Rattle.model.specs.Number.{first, firstOf}
-use Rattle.model.specs.Object.{Object, kindOf, roleOf, split, join, bytesOf}
+use Rattle.model.specs.Object.{Object, kindOf, roleOf, split, join, bytesOf, behind}
 use Rattle.model.specs.Run.{runObjects}
 use Rattle.model.specs.Update.{nextBody, updateObject, update, objectLeaf, tooLong, leafAnswer}
-use Rattle.model.proofs.ObjectLaws.{behind, join-append}
+use Rattle.model.proofs.ObjectLaws.{join-append}
 use Rattle.model.proofs.FirstLaws.{first-snoc}
 use Rattle.model.proofs.ShapeLaws.{update-append}
 use Rattle.wire.specs.declared.objects.Header.{Header}
@@ -35,7 +35,7 @@ use Rattle.model.specs.Pack.{unpackable}
 use Rattle.hop.specs.Sent.{sendsObjects, sentOf}
 use Rattle.hop.specs.Planned.{Small, Fills, Plans, Passes}
 use Rattle.hop.proofs.PackingLaws.{fills-first, packs-size}
-use Rattle.hop.proofs.PartLaws.{Within, within-first, within-found, within-end, within-short, from-part, from-broken, at-end}
+use Rattle.hop.proofs.PartLaws.{behind-nil, behind-behind, Within, within-first, within-found, within-end, within-short, from-part, from-broken, at-end}
 
 -- the body of an object for the next hop
 abbrev pub bodyNext : Own → Neighbour → Header → List ℕ → List ℕ
@@ -142,14 +142,10 @@ module _ (own : Own) (c : Neighbour) (run : List ℕ) where
   planning-first s e = record {
     inside = start-on run s e;
     earlier = [];
-    so-far = sym (from-start run s e) ∙ go (objectsFrom run (s .end) (s .cursor));
+    so-far = sym (from-start run s e) ∙ behind-nil (objectsFrom run (s .end) (s .cursor));
     plans = record { leaf = refl; fills = fills-first };
     small = record { few = omega arith; room = omega arith; short = omega arith };
   }
-    where
-      go : (r : Option (List Object)) → r ≡ behind [] r
-      go none = refl
-      go (some os) = refl
 
   module _ (end : ℕ) (k : Cursor) (p : Planned) (q : Planning own c run end k p) (r : Passed)
       (f : (es : List Object) → Plans own c p es → Passes own c r es (split (slice (k .at) end run))) where
@@ -170,14 +166,10 @@ module _ (own : Own) (c : Neighbour) (run : List ℕ) where
         go (some os) e (x, y) = record {
           inside = (omega arith, q .inside .1);
           earlier = q .earlier ++ os;
-          so-far = q .so-far ∙ ap (behind (q .earlier)) (from-part run end k (q .inside) end os (q .inside .0) (omega arith) e) ∙ more (objectsFrom run end (record { at = end }));
+          so-far = q .so-far ∙ ap (behind (q .earlier)) (from-part run end k (q .inside) end os (q .inside .0) (omega arith) e) ∙ behind-behind (q .earlier) os (objectsFrom run end (record { at = end }));
           plans = y;
           small = s;
         }
-          where
-            more : (t : Option (List Object)) → behind (q .earlier) (behind os t) ≡ behind (q .earlier ++ os) t
-            more none = refl
-            more (some t) = ap some (sym (append-assoc (q .earlier) os t))
 
     module _ (z : r .whole ≡ true) (s : Small (r .planned .filled)) where
       last : stepAt (take end run) (record { at = end }) ≡ End

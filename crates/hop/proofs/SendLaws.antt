@@ -13,7 +13,7 @@ use borrow.Author.Tests.{ltb-false}
 use Rattle.model.specs.declared.Own.{Own}
 use Rattle.model.specs.declared.Neighbour.{Neighbour}
 use Rattle.model.specs.Number.{anyOf, firstOf, firstCase, _when_}
-use Rattle.model.specs.Object.{Object, kindOf, roleOf, split, join, bytesOf}
+use Rattle.model.specs.Object.{Object, kindOf, roleOf, split, join, bytesOf, behind}
 use Rattle.model.specs.Run.{runObjects}
 use Rattle.model.specs.Pack.{packed, isOverlong, unpackable}
 use Rattle.model.specs.Update.{addsNothing, nextFlags, nextMode, updateObject, update, objectLeaf, tooLong, leafAnswer}
@@ -21,7 +21,7 @@ use Rattle.model.specs.Choice.{Outgoing, noContainer, nextHop, unlessLeaf, size
 use Rattle.model.proofs.BoolLaws.{neither}
 use Rattle.model.proofs.NumberLaws.{first-zero}
 use Rattle.model.proofs.ListLaws.{any-append}
-use Rattle.model.proofs.ObjectLaws.{behind, join-append}
+use Rattle.model.proofs.ObjectLaws.{join-append}
 use Rattle.model.proofs.ShapeLaws.{update-append}
 use Rattle.model.proofs.PackLaws.{written}
 use Rattle.wire.specs.declared.objects.Header.{Header}

@@ -1,18 +1,16 @@
 // The containers for the next hop: each is built in an array of 257 bytes, and copied to the output when it is closed.
 ghost use mathlib.Core.Path.{_≡_};
-ghost use Prim.Native.Nat.{ℕ, _+_, _-_, _≤_, _<_};
-ghost use mathlib.Core.Bool.{false};
-ghost use mathlib.Core.List.{List, _∷_, _++_};
+ghost use Prim.Native.Nat.{_+_, _-_, _≤_, _<_};
+ghost use mathlib.Core.List.{List};
 ghost use mathlib.Core.Option.{some};
 ghost use lib.Dec.{leb};
 ghost use lib.ListN.{length, getD, set, take, drop};
 ghost use lib.Seq.{sets};
 ghost use Rattle.model.specs.declared.Own.{Own};
-ghost use Rattle.model.specs.Number.{anyOf};
 ghost use Rattle.model.specs.Object.{Object, bytesOf, split, join};
 ghost use Rattle.model.specs.Run.{runObjects};
 ghost use Rattle.model.specs.Update.{update, updateObject};
-ghost use Rattle.model.specs.Pack.{packed, isOverlong};
+ghost use Rattle.model.specs.Pack.{packed};
 ghost use Rattle.model.specs.Choice.{outputOf};
 ghost use Rattle.wire.specs.Start.{startOf};
 ghost use Rattle.wire.specs.Step.{objectOf};

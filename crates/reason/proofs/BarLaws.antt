@@ -10,7 +10,7 @@ use Rattle.model.specs.declared.Own.{Own}
 use Rattle.model.specs.declared.Candidate.{Candidate}
 use Rattle.model.specs.declared.Verdict.the-variants.{Barred}
 use Rattle.model.specs.Run.{optionCut, ninthContainer}
-use Rattle.model.specs.Verdict.{badNumbers, runOf, outside, verdict, numberOf}
+use Rattle.model.specs.Verdict.{badNumbers, runOf, outside, verdict}
 use Rattle.model.proofs.BoolLaws.{neither}
 use Rattle.model.proofs.Bars.{bar-exact}
 use Rattle.reason.specs.declared.findings.Finding.{Finding}

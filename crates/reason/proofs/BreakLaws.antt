@@ -1,5 +1,5 @@
 -- What was found breaks what was asked: bars 11, 12, 22, 23 and 14, and every bar of which something is told; of no other is anything told.
-use mathlib.Core.Path.{_≡_, refl, sym, ap, _∙_}
+use mathlib.Core.Path.{_≡_, refl, ap, _∙_}
 use Prim.Native.Nat.{ℕ, zero, suc, _+_, _≤_}
 use native.Mathlib.Nat.{not-suc-le-zero}
 use native.Mathlib.Omega.{arith}
@@ -117,7 +117,8 @@ object-breaks rest r h (suc k) [] i l = h i ∙ none-joined r
 object-breaks rest r h (suc k) (t ∷ []) i l = refl
 object-breaks rest r h (suc k) (t ∷ f ∷ []) i l = refl
 object-breaks rest r h (suc k) (t ∷ f ∷ m ∷ []) i l = refl
-object-breaks rest r h (suc k) (t ∷ f ∷ m ∷ n ∷ bs) i l = go (leb n (length bs)) refl (object-breaks rest r h k (drop n bs) (i + 1) (rw length-drop (omega arith)))
+object-breaks rest r h (suc k) (t ∷ f ∷ m ∷ n ∷ bs) i l =
+    go (leb n (length bs)) refl (object-breaks rest r h k (drop n bs) (i + 1) (rw length-drop (omega arith)))
   where
     go : (b : Bool) → leb n (length bs) ≡ b → breaks (orElse rest (toldFrom k (drop n bs) (i + 1))) ≡ isNone (joined (splitUpTo k (drop n bs)) r)
         → breaks (orElse rest (cond (ltb (length bs) n) (Short (finding 14 i n (length bs))) (toldFrom k (drop n bs) (i + 1))))

@@ -1,5 +1,5 @@
 -- The options of a run, one after another: what the step over one says of them.
-use mathlib.Core.Path.{_≡_, refl, sym, ap, _∙_}
+use mathlib.Core.Path.{_≡_, refl, sym, _∙_}
 use Prim.Native.Nat.{ℕ, zero, suc, _+_, _-_, _≤_, _<_}
 use native.Mathlib.Nat.{not-suc-le-zero}
 use native.Mathlib.Omega.{arith}
@@ -8,18 +8,17 @@ use mathlib.Core.List.{List, [], _∷_}
 use mathlib.Core.Option.{Option, none, some}
 use lib.ListN.{length, take, drop, getD, length-drop, drop-of-length-le}
 use lib.Seq.{drop-cons, drop-drop}
-use lib.Dec.{leb, ltb, eqb}
+use lib.Dec.{eqb}
 use borrow.Author.Tests.{le-leb, lt-leb, lt-ltb, le-ltb, eq-eqb, ne-eqb}
 use Rattle.model.specs.Cut.{keepIf}
-use Rattle.model.specs.Reading.{isNone}
 use Rattle.model.specs.Run.{RplOption, leading, optionsUpTo, options, containers, optionsIn, containersIn}
 use Rattle.model.proofs.RunLaws.{options-pad, options-step}
 use Rattle.wire.proofs.RunWalkLaws.{optionBy, containers-by}
 use Rattle.reason.specs.declared.findings.Finding.{Finding}
 use Rattle.reason.specs.declared.options.Piece.{Piece}
 use Rattle.reason.specs.declared.options.Piece.the-variants.{Cut, Whole}
-use Rattle.reason.specs.Finding.{finding, nothing, cutOptionFrom, cutOptionFinding}
-use Rattle.reason.specs.Options.{cutOptionAt, Passed, Stands}
+use Rattle.reason.specs.Finding.{finding, nothing, cutOptionFrom}
+use Rattle.reason.specs.Options.{cutOptionAt, dataOf, Passed, Stands}
 
 -- ---- the option at the head
 
@@ -58,7 +57,8 @@ unfolding cutOptionFrom
 whole zero n bs at z l = absurd (z refl)
 whole (suc t) n bs at z l = (
   options-step t n bs ∙ rw (le-leb n (length bs) l),
-  rw (le-ltb (length bs) n l) (cut-enough (suc (length bs)) (length (drop n bs)) (drop n bs) (at + 2 + n) (rw length-drop (omega arith)) (omega arith)),
+  rw (le-ltb (length bs) n l)
+      (cut-enough (suc (length bs)) (length (drop n bs)) (drop n bs) (at + 2 + n) (rw length-drop (omega arith)) (omega arith)),
 )
 
 -- ---- the option at an index, as code finds it
@@ -154,8 +154,8 @@ counts-first run = record { few = omega arith; same = go (options run) }
     go none = refl
     go (some os) = omega arith
 
-counted-on : (o : RplOption) (d : List ℕ) (b : Bool) (k : ℕ) (r : Option (List RplOption)) → ((os : List RplOption) → containers (o ∷ os) ≡ keepIf b d (containers os))
-    → counted k (leading o r) ≡ counted (cond b (k + 1) k) r
+counted-on : (o : RplOption) (d : List ℕ) (b : Bool) (k : ℕ) (r : Option (List RplOption))
+    → ((os : List RplOption) → containers (o ∷ os) ≡ keepIf b d (containers os)) → counted k (leading o r) ≡ counted (cond b (k + 1) k) r
 counted-on o d b k none h = refl
 counted-on o d true k (some os) h = rw (h os) (omega arith)
 counted-on o d false k (some os) h = rw (h os)
@@ -170,7 +170,9 @@ module _ (run : List ℕ) (at found : ℕ) (c : Counts run at found) where
 
   module _ (t end : ℕ) (p : Passed run at t end) where
     on : (b : Bool) → eqb t 2 ≡ b → counted (cond b (found + 1) found) (options (drop end run)) ≡ length (containersIn run)
-    on b e = sym (counted-on (p .passed) (take (end - (at + 2)) (drop (at + 2) run)) b found (options (drop end run)) (rw (← e) (p .holds))) ∙ (rw (p .stands) at (c .same))
+    on b e =
+        sym (counted-on (p .passed) (dataOf run at end) b found (options (drop end run)) (rw (← e) (p .holds)))
+        ∙ (rw (p .stands) at (c .same))
 
     pub counts-one : t ≡ 2 → Counts run end (found + 1)
     counts-one e = record { few = omega (arith, c .few, p .further); same = on true (eq-eqb t 2 e) }

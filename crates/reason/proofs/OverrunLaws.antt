@@ -1,5 +1,5 @@
 -- Bar 14: the objects of a container, and the containers of a run, up to the first object that is cut short.
-use mathlib.Core.Path.{_≡_, refl, sym, ap, _∙_}
+use mathlib.Core.Path.{_≡_, refl, sym, _∙_}
 use Prim.Native.Nat.{ℕ, zero, suc, _+_, _-_, _≤_, _<_}
 use native.Mathlib.Nat.{not-suc-le-zero}
 use native.Mathlib.Omega.{arith}
@@ -15,10 +15,9 @@ use Rattle.model.specs.Reading.{isNone}
 use Rattle.model.specs.Run.{RplOption, leading, options, containers, optionsIn, containersIn, optionCut}
 use Rattle.wire.proofs.StepLaws.{header-at}
 use Rattle.reason.specs.declared.findings.Finding.{Finding}
-use Rattle.reason.specs.declared.frames.Objects.{Objects}
 use Rattle.reason.specs.declared.frames.Objects.the-variants.{Short, All}
-use Rattle.reason.specs.Finding.{finding, nothing, toldFrom, objectsTold, orElse, overrunFrom, overrunFinding}
-use Rattle.reason.specs.Options.{Passed}
+use Rattle.reason.specs.Finding.{finding, nothing, toldFrom, objectsTold, overrunFrom, overrunFinding}
+use Rattle.reason.specs.Options.{dataOf, Passed}
 use Rattle.reason.proofs.OptionLaws.{options-end}
 
 -- ---- the objects of a container
@@ -72,28 +71,35 @@ module _ (bs : List ℕ) (first at index : ℕ) (w : Telling bs first at index) 
     abbrev size : ℕ
     size = getD bs (at + 3) 0
 
-    there : length (drop (at + 4) bs) ≡ length bs - at - 4
-    there = length-drop (at + 4) bs ∙ omega arith
+    abbrev there : ℕ
+    there = length bs - at - 4
 
     at-head : objectsTold (drop at bs) index
-        ≡ cond (ltb (length bs - at - 4) size) (Short (finding 14 index size (length bs - at - 4))) (objectsTold (drop size (drop (at + 4) bs)) (index + 1))
-    at-head = rw (header-at bs at (omega arith), ← there) (told-step (getD bs at 0) (getD bs (at + 1) 0) (getD bs (at + 2) 0) size (drop (at + 4) bs) index)
+        ≡ cond (ltb there size) (Short (finding 14 index size there)) (objectsTold (drop size (drop (at + 4) bs)) (index + 1))
+    at-head =
+        let n : length (drop (at + 4) bs) ≡ there = length-drop (at + 4) bs ∙ omega arith in
+        rw (header-at bs at (omega arith), ← n)
+        (told-step (getD bs at 0) (getD bs (at + 1) 0) (getD bs (at + 2) 0) size (drop (at + 4) bs) index)
 
-    pub telling-body : length bs - at - 4 < getD bs (at + 3) 0 → Short (finding 14 index (getD bs (at + 3) 0) (length bs - at - 4)) ≡ objectsTold bs first
-    telling-body l = sym (at-head ∙ rw (lt-ltb (length bs - at - 4) size l)) ∙ w .same
+    pub telling-body : there < size → Short (finding 14 index size there) ≡ objectsTold bs first
+    telling-body l = sym (at-head ∙ rw (lt-ltb there size l)) ∙ w .same
 
-    pub telling-next : getD bs (at + 3) 0 ≤ length bs - at - 4 → Telling bs first (at + (4 + getD bs (at + 3) 0)) (index + 1)
+    pub telling-next : size ≤ there → Telling bs first (at + (4 + size)) (index + 1)
     telling-next l =
         let e : at + 4 + size ≡ at + (4 + size) = omega arith in
         record {
           few = omega (arith, w .few);
           inside = omega (arith, w .inside);
-          same = sym (at-head ∙ rw (le-ltb (length bs - at - 4) size l, drop-drop size (at + 4) bs, e)) ∙ w .same;
+          same = sym (at-head ∙ rw (le-ltb there size l, drop-drop size (at + 4) bs, e)) ∙ w .same;
         }
 
   pub telling-end : length bs ≤ at → All index ≡ objectsTold bs first
   unfolding objectsTold toldFrom
   telling-end l = rw (drop-of-length-le bs l) at (w .same)
+
+-- an object that is cut short is no index
+pub no-index : (f : Finding) (j m : ℕ) → Short f ≡ All j → j ≤ m
+no-index f j m e = absurd (let z : _≡_ {A = ℕ} 0 1 = cc in omega arith)
 
 -- ---- the containers of a run
 
@@ -121,27 +127,25 @@ module _ (run : List ℕ) (at index : ℕ) (w : Overruns run at index) where
   overruns-end l h = rw (options-end run at l) at (w .same h .1)
 
   module _ (t end : ℕ) (p : Passed run at t end) where
-    abbrev held : List ℕ
-    held = take (end - (at + 2)) (drop (at + 2) run)
-
     behind : (b : Bool) → eqb t 2 ≡ b → optionCut run ≡ false
-        → (optionCut (drop end run) ≡ false) × (overrunFrom (keepIf b held (containersIn (drop end run))) index ≡ overrunFinding run)
+        → (optionCut (drop end run) ≡ false) × (overrunFrom (keepIf b (dataOf run at end) (containersIn (drop end run))) index ≡ overrunFinding run)
     behind b e h =
         let (x, y) = w .same h in
         let (a, d) = whole-behind (p .passed) (options (drop end run)) (rw (p .stands) at x) in
-        let q : containersIn (drop at run) ≡ keepIf b held (containersIn (drop end run)) = rw (p .stands, d) (p .holds (optionsIn (options (drop end run))) ∙ rw e) in
+        let q : containersIn (drop at run) ≡ keepIf b (dataOf run at end) (containersIn (drop end run)) =
+        rw (p .stands, d) (p .holds (optionsIn (options (drop end run))) ∙ rw e) in
         (a, rw q at y)
 
     pub overruns-other : (t ≡ 2 → ⊥) → Overruns run end index
     overruns-other e = record { few = omega (arith, w .few, p .further); same = behind false (ne-eqb t 2 e) }
 
     module _ (e : t ≡ 2) where
-      pub overruns-short : {f : Finding} → objectsTold (take (end - (at + 2)) (drop (at + 2) run)) index ≡ Short f → optionCut run ≡ false → f ≡ overrunFinding run
+      pub overruns-short : {f : Finding} → objectsTold (dataOf run at end) index ≡ Short f → optionCut run ≡ false → f ≡ overrunFinding run
       unfolding overrunFrom
       overruns-short q h = rw q at (behind true (eq-eqb t 2 e) h .1)
 
-      pub overruns-whole : {j : ℕ} → objectsTold (take (end - (at + 2)) (drop (at + 2) run)) index ≡ All j
-          → j ≤ index + length (take (end - (at + 2)) (drop (at + 2) run)) → Overruns run end j
+      pub overruns-whole : {j : ℕ} → objectsTold (dataOf run at end) index ≡ All j
+          → j ≤ index + length (dataOf run at end) → Overruns run end j
       unfolding overrunFrom
       overruns-whole q l =
           let m = p .long (λ z. omega arith) in

@@ -1,10 +1,10 @@
 -- Bar 19: the walk to the object of an index, and what is told of it.
-use mathlib.Core.Path.{_≡_, refl, sym, ap, _∙_}
+use mathlib.Core.Path.{_≡_, refl, sym, _∙_}
 use Prim.Native.Nat.{ℕ, zero, suc, _+_, _-_, _≤_}
 use native.Mathlib.Omega.{arith}
 use mathlib.Core.Bool.{Bool}
 use mathlib.Core.List.{List, [], _∷_, _++_}
-use mathlib.Core.Option.{Option, none, some, Option·none-ne-some}
+use mathlib.Core.Option.{none, some, Option·none-ne-some}
 use lib.ListN.{length, getD, getElem?, take, drop, length-append}
 use borrow.Author.Tests.{ne-eqb}
 use Rattle.model.specs.declared.Quantity.{Quantity}
@@ -24,9 +24,10 @@ use Rattle.wire.specs.declared.options.Start.{Start}
 use Rattle.wire.specs.Step.{stepAt, objectIn}
 use Rattle.wire.specs.Entry.{entryAt}
 use Rattle.wire.specs.Start.{startOf}
+use Rattle.wire.specs.Walk.{RunWalked}
 use Rattle.wire.specs.declared.container.Reading.the-variants.{Refused, WellFormed}
 use Rattle.wire.specs.Reading.{hopsOf, toldOf, readingOf}
-use Rattle.wire.proofs.RunWalkLaws.{RunWalked, run-first, run-found, run-rest, run-short, run-enter, run-cut, run-end}
+use Rattle.wire.proofs.RunWalkLaws.{run-first, run-found, run-rest, run-short, run-enter, run-cut, run-end}
 use Rattle.reason.specs.declared.findings.Finding.{Finding}
 use Rattle.reason.specs.Finding.{nothing, hopsFinding, hopsTold, askedWith, objectFinding, unmetFinding}
 
@@ -94,7 +95,8 @@ module _ (c : Neighbour) (run : List ℕ) (end : ℕ) (p : Cursor) (place left :
     (os : List Object) (whole : runObjects run ≡ some os) where
   pub here-asked : {told : Told} {h : Header} {start stop : ℕ} {n : Cursor} {f : Finding} → stepAt (take end run) p ≡ Found h start stop n → left ≡ 0
       → told ≡ toldOf (summary os)
-      → let b = take (stop - start) (drop start (take end run)) in f ≡ askedWith c (hopsTold (told .hops) (getD b 1 0)) (told .latency) (told .etx) (h .mctype) b
+      → let b = take (stop - start) (drop start (take end run)) in
+      f ≡ askedWith c (hopsTold (told .hops) (getD b 1 0)) (told .latency) (told .etx) (h .mctype) b
       → f ≡ objectFinding c (summary os) (getElem? os place)
   here-asked {told} {h} {start} {stop} e z tells q =
       q ∙ rw (seeks-here run end p place left w e os z whole) (asked-told c told os (objectIn (take end run) h start stop) tells)
@@ -114,7 +116,8 @@ refused-unmet c (model.refused n p) k e = refl
 refused-unmet c (model.wellFormed os) k e = absurd (let z : _≡_ {A = ℕ} 0 1 = cc in omega arith)
 
 -- one that is read has it by what it tells
-pub read-unmet : (c : Neighbour) (r : model.Reading) (k : ℕ) {count : ℕ} {asked : Bool} {told : Told} {f : Finding} → readingOf r ≡ WellFormed count asked told
+pub read-unmet : (c : Neighbour) (r : model.Reading) (k : ℕ) {count : ℕ} {asked : Bool} {told : Told} {f : Finding}
+    → readingOf r ≡ WellFormed count asked told
     → ((os : List Object) → r ≡ wellFormed os → told ≡ toldOf (summary os) → f ≡ objectFinding c (summary os) (getElem? os k)) → f ≡ unmetFinding c r k
 read-unmet c (model.refused n p) k e h = absurd (let z : _≡_ {A = ℕ} 0 1 = cc in omega arith)
 read-unmet c (model.wellFormed os) k e h = h os refl cc

@@ -1,4 +1,4 @@
--- What was asked of a candidate that is barred by 11, 12, 14, 19, 22 or 23, and what was found. The ways are numbered in crates/reason/src/findings.rt.
+-- What was asked of a candidate that is barred by 11, 12, 14, 19, 22 or 23, and what was found, by the ways of src/findings.rt.
 use Prim.Native.Nat.{ℕ, zero, suc, _+_, _-_, _/_, _%_}
 use mathlib.Core.Bool.{cond, not, _&&_, _||_}
 use mathlib.Core.List.{List, [], _∷_}
@@ -59,7 +59,7 @@ outsideFinding c n = finding 9 (c .start) (c .size) n
 
 -- ---- bars 22 and 23: the options of a run
 
--- the option that is cut short, from one on that begins at an index of the run: a type byte alone, or too little data. `limit` bounds their number
+-- the option that is cut short, from one on at an index of the run: a type byte alone, or too little data. `limit` bounds their number
 unfoldable pub cutOptionFrom : (limit : ℕ) → List ℕ → (at : ℕ) → Finding
 cutOptionFrom zero bs at = nothing
 cutOptionFrom (suc k) [] at = nothing
@@ -77,8 +77,7 @@ containersFinding bs = finding 39 0 8 (length (containersIn bs))
 
 -- ---- bar 14: the object that is cut short
 
--- in the data of a container, from an object on that has an index: its header of four bytes, or the body that its header says; where all are
--- whole, the index behind them. `limit` bounds their number
+-- in a container's data, from an object of an index on: a header of four bytes, or a body; else the index behind all. `limit` bounds their number
 unfoldable pub toldFrom : (limit : ℕ) → List ℕ → (index : ℕ) → Objects
 toldFrom zero bs i = All i
 toldFrom (suc k) [] i = All i
@@ -91,17 +90,17 @@ toldFrom (suc k) (t ∷ f ∷ m ∷ n ∷ bs) i = cond (ltb (length bs) n) (Shor
 unfoldable pub objectsTold : List ℕ → (index : ℕ) → Objects
 objectsTold bs i = toldFrom (length bs) bs i
 
--- what is told of one object, or else of those behind
+-- what is told of an object that is cut short, else what the containers behind tell
 abbrev pub orElse : (rest : ℕ → Finding) → Objects → Finding
 orElse rest (Short f) = f
 orElse rest (All i) = rest i
 
--- in containers one after another
+-- in the data of containers, one after another
 unfoldable pub overrunFrom : List (List ℕ) → (index : ℕ) → Finding
 overrunFrom [] i = nothing
 overrunFrom (d ∷ ds) i = orElse (λ j. overrunFrom ds j) (objectsTold d i)
 
--- of a run
+-- of a run, by the index among its joined objects
 unfoldable pub overrunFinding : List ℕ → Finding
 overrunFinding bs = overrunFrom (containersIn bs) 0
 

@@ -16,6 +16,10 @@ use Rattle.reason.specs.Finding.{cutOptionFrom}
 unfoldable pub cutOptionAt : List ℕ → (at : ℕ) → Finding
 cutOptionAt run at = cutOptionFrom (length (drop at run)) (drop at run) at
 
+-- the data of an option with a length, by its index and the index behind it
+abbrev pub dataOf : List ℕ → (at end : ℕ) → List ℕ
+dataOf run at end = take (end - (at + 2)) (drop (at + 2) run)
+
 -- an option of a type that is whole up to an index: it stands before those behind it, and is a container with its data if its type is 2
 pub record Passed (run : List ℕ) (at type end : ℕ) : Type 0 where
   pub further : at < end
@@ -24,7 +28,7 @@ pub record Passed (run : List ℕ) (at type end : ℕ) : Type 0 where
   pub told : cutOptionAt run at ≡ cutOptionAt run end
   pub passed : RplOption
   pub stands : options (drop at run) ≡ leading passed (options (drop end run))
-  pub holds : (os : List RplOption) → containers (passed ∷ os) ≡ keepIf (eqb type 2) (take (end - (at + 2)) (drop (at + 2) run)) (containers os)
+  pub holds : (os : List RplOption) → containers (passed ∷ os) ≡ keepIf (eqb type 2) (dataOf run at end) (containers os)
 
 -- an option that is cut short, as is told of it; or one that is whole
 abbrev pub Stands : List ℕ → (at : ℕ) → Piece → Type 0

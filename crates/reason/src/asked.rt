@@ -67,7 +67,7 @@ fn of_ne(neighbour: Neighbour, flags: u8, limit: u8) -> Finding
     findings::small(findings::BARRED_TYPE, 0, nodetype, neighbour.nodetype)
 }
 
-// HP: by the count that a container tells, one more than it, 0 for none.
+// HP: by the count that a run tells, one more than it, 0 for none.
 fn of_hops(hops: u16, limit: u8) -> Finding
     ensures { λ r. ⌜ r ≡ hopsTold hops limit ⌝ }
 {

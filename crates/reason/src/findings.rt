@@ -34,6 +34,8 @@ pub const PREFERENCE: u8 = 8;
 // Bar 12: the run starts at which and has asked bytes; found are lent.
 pub const OUTSIDE: u8 = 9;
 
+// 10 to 12 were those of bar 13, which bars no candidate any more.
+
 // Bar 14: at the object of index which, asked bytes of header, or of body by its header; found are in its container.
 pub const HEADER: u8 = 13;
 

@@ -72,7 +72,8 @@ returns-2 : tie.Need-returns-2 Inv-loop μ-loop
 returns-2 c =
     let stepped = c .before .before .before .before .before .before .before .before .before in
     let p = is-passed _ _ (stepped .option-at .ensures) (c .before .before .before .before .before .before .before .kind .given .1) in
-    λ h. overruns-short _ _ _ (stepped .before .before .loop .inv) _ _ p (c .before .before .before .before .before .if1 .taken) (sym (c .before .before .before .objects-of .ensures .0) ∙ c .before .finding .given .1) h
+    let told = sym (c .before .before .before .objects-of .ensures .0) ∙ c .before .finding .given .1 in
+    λ h. overruns-short _ _ _ (stepped .before .before .loop .inv) _ _ p (c .before .before .before .before .before .if1 .taken) told h
 
 enum-known-behind : tie.Need-enum-known-behind Inv-loop μ-loop
 enum-known-behind c = search needs
@@ -87,7 +88,9 @@ loop-again : tie.Need-loop-again Inv-loop μ-loop
 loop-again c =
     let stepped = c .before .before .before .before .before .before .before .before .before in
     let p = is-passed _ _ (stepped .option-at .ensures) (c .before .before .before .before .before .before .before .kind .given .1) in
-    overruns-whole _ _ _ (stepped .before .before .loop .inv) _ _ p (c .before .before .before .before .before .if1 .taken) (sym (c .before .before .before .objects-of .ensures .0) ∙ c .before .behind .given .1) (c .before .before .before .objects-of .ensures .1 _ (c .before .behind .given .1))
+    let told = c .before .before .before .objects-of .ensures in
+    let all = c .before .behind .given .1 in
+    overruns-whole _ _ _ (stepped .before .before .loop .inv) _ _ p (c .before .before .before .before .before .if1 .taken) (sym (told .0) ∙ all) (told .1 _ all)
 
 loop-less-2 : tie.Need-loop-less-2 Inv-loop μ-loop
 loop-less-2 c =

@@ -54,7 +54,8 @@ of-type-requires c κs = search needs
 returns : tie.Need-returns Inv-loop μ-loop
 returns c =
     let at-step = c .before .before .before .before .before .before in
-    λ os whole tells. here-asked _ _ _ _ _ _ (at-step .before .before .loop .inv) os whole (sym (at-step .next .ensures) ∙ c .before .before .before .before .header .given .1) (c .before .before .if1 .taken) tells (c .of-type .ensures)
+    let found = sym (at-step .next .ensures) ∙ c .before .before .before .before .header .given .1 in
+    λ os whole tells. here-asked _ _ _ _ _ _ (at-step .before .before .loop .inv) os whole found (c .before .before .if1 .taken) tells (c .of-type .ensures)
 
 sub-left : tie.Need-sub-left Inv-loop μ-loop
 sub-left c = search needs
@@ -79,7 +80,8 @@ nothing-requires c κs = search needs
 returns-2 : tie.Need-returns-2 Inv-loop μ-loop
 returns-2 c =
     let at-step = c .before .before .before in
-    λ os whole tells. c .nothing .ensures ∙ short-asked _ _ _ _ _ _ (at-step .before .before .loop .inv) os whole (sym (at-step .next .ensures) ∙ c .before .enum-told .given .1)
+    let short = sym (at-step .next .ensures) ∙ c .before .enum-told .given .1 in
+    λ os whole tells. c .nothing .ensures ∙ short-asked _ _ _ _ _ _ (at-step .before .before .loop .inv) os whole short
 
 enum-told-2 : tie.Need-enum-told-2 Inv-loop μ-loop
 enum-told-2 c = search needs
@@ -96,7 +98,8 @@ loop-less-2 c = enter-on _ _ _ (sym (c .before .before .before .enter .ensures) 
 loop-again-2 : tie.Need-loop-again-2 Inv-loop μ-loop
 loop-again-2 c =
     let at-step = c .before .before .before .before .before .before in
-    seeks-enter _ _ _ _ _ (at-step .before .before .loop .inv) (sym (at-step .next .ensures) ∙ c .before .before .before .before .enum-told2 .given .1) (sym (c .before .before .before .enter .ensures) ∙ c .before .first .given .1)
+    let end = sym (at-step .next .ensures) ∙ c .before .before .before .before .enum-told2 .given .1 in
+    seeks-enter _ _ _ _ _ (at-step .before .before .loop .inv) end (sym (c .before .before .before .enter .ensures) ∙ c .before .first .given .1)
 
 enum-told-3 : tie.Need-enum-told-3 Inv-loop μ-loop
 enum-told-3 c = search needs
@@ -107,7 +110,9 @@ nothing-requires-2 c κs = search needs
 returns-3 : tie.Need-returns-3 Inv-loop μ-loop
 returns-3 c =
     let at-step = c .before .before .before .before .before .before in
-    λ os whole tells. c .nothing2 .ensures ∙ cut-asked _ _ _ _ _ _ (at-step .before .before .loop .inv) os whole (sym (at-step .next .ensures) ∙ c .before .before .before .before .enum-told2 .given .1) (sym (c .before .before .before .enter .ensures) ∙ c .before .enum-told3 .given .1)
+    let end = sym (at-step .next .ensures) ∙ c .before .before .before .before .enum-told2 .given .1 in
+    let entry = sym (c .before .before .before .enter .ensures) ∙ c .before .enum-told3 .given .1 in
+    λ os whole tells. c .nothing2 .ensures ∙ cut-asked _ _ _ _ _ _ (at-step .before .before .loop .inv) os whole end entry
 
 enum-told-4 : tie.Need-enum-told-4 Inv-loop μ-loop
 enum-told-4 c = search needs
@@ -118,7 +123,9 @@ nothing-requires-3 c κs = search needs
 returns-4 : tie.Need-returns-4 Inv-loop μ-loop
 returns-4 c =
     let at-step = c .before .before .before .before .before .before in
-    λ os whole tells. c .nothing3 .ensures ∙ end-asked _ _ _ _ _ _ (at-step .before .before .loop .inv) os whole (sym (at-step .next .ensures) ∙ c .before .before .before .before .enum-told2 .given .1) (sym (c .before .before .before .enter .ensures) ∙ c .before .enum-told4 .given .1)
+    let end = sym (at-step .next .ensures) ∙ c .before .before .before .before .enum-told2 .given .1 in
+    let entry = sym (c .before .before .before .enter .ensures) ∙ c .before .enum-told4 .given .1 in
+    λ os whole tells. c .nothing3 .ensures ∙ end-asked _ _ _ _ _ _ (at-step .before .before .loop .inv) os whole end entry
 
 pub at-object-spec : {M : Type 1} → statement M
 at-object-spec =

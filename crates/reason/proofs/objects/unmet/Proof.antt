@@ -24,12 +24,14 @@ at-object-requires c κs = search needs
 returns : tie.Need-returns
 returns c =
     let args = c .before .before .before .before .before .args in
-    c .nothing .ensures ∙ refused-unmet (args .neighbour) (readRun (args .run .now)) (args .place) (sym (c .before .before .before .read-run .ensures) ∙ c .before .enum-told .given .1)
+    let refused = sym (c .before .before .before .read-run .ensures) ∙ c .before .enum-told .given .1 in
+    c .nothing .ensures ∙ refused-unmet (args .neighbour) (readRun (args .run .now)) (args .place) refused
 
 returns-2 : tie.Need-returns-2
 returns-2 c =
     let args = c .before .before .before .before .before .before .args in
-    read-unmet (args .neighbour) (readRun (args .run .now)) (args .place) (sym (c .before .before .before .before .read-run .ensures) ∙ c .before .before .told .given .1) (λ os read. c .at-object .ensures os (run-objects _ os read .objects))
+    let read = sym (c .before .before .before .before .read-run .ensures) ∙ c .before .before .told .given .1 in
+    read-unmet (args .neighbour) (readRun (args .run .now)) (args .place) read (λ os read. c .at-object .ensures os (run-objects _ os read .objects))
 
 pub unmet-spec : {M : Type 1} → statement M
 unmet-spec =
