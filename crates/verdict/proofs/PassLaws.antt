@@ -22,10 +22,17 @@ use Rattle.wire.specs.declared.options.Start.{Start}
 use Rattle.wire.specs.Step.{stepAt, objectIn}
 use Rattle.wire.specs.Entry.{entryAt}
 use Rattle.wire.specs.Start.{startOf}
+use Rattle.wire.specs.Walk.{RunWalked}
 use Rattle.wire.proofs.RunWalkLaws.{run-first, run-found, run-enter, run-end, run-short, run-cut, run-rest}
-use Rattle.verdict.specs.declared.candidate.Barring.{Barring}
-use Rattle.verdict.specs.Judged.{Tabled, WellFormed, BarsFirst, Pass, Passed, Looks}
+use Rattle.verdict.specs.Judged.{Tabled, WellFormed, BarsFirst}
 use Rattle.model.proofs.TabledLaws.{among-tabled}
+
+-- the objects before a cursor, which none of the tests bars, and their number
+pub record Pass (c : Neighbour) (s : Summary) (run : List ℕ) (end : ℕ) (p : Cursor) (place : ℕ) : Type 0 where
+  pub earlier : List Object
+  pub walked : RunWalked run end p earlier
+  pub clear : firstOf (constraintBar c s) earlier ≡ 0
+  pub count : place ≡ length earlier
 
 module _ (c : Neighbour) (s : Summary) (run : List ℕ) where
   pub pass-first : (t : Start) → t ≡ startOf run → Pass c s run (t .end) (t .cursor) 0
@@ -76,33 +83,18 @@ module _ (c : Neighbour) (s : Summary) (run : List ℕ) where
   pub pass-enter : (end : ℕ) (p : Cursor) (place : ℕ) {q : Cursor} {e : ℕ} → Pass c s run end p place → stepAt (take end run) p ≡ End → entryAt run end ≡ Into q e → Pass c s run e q place
   pass-enter end p place w d f = record { earlier = w .earlier; walked = run-enter run end p (w .earlier) (w .walked) d f; clear = w .clear; count = w .count }
 
-  -- one container: an object is barred, its objects end, or one is cut short, which none of a well-formed run is
-  module _ (end : ℕ) (p : Cursor) (place : ℕ) (w : Pass c s run end p place) where
-    pub looks-barred : {h : Header} {start stop : ℕ} {n : Cursor} → stepAt (take end run) p ≡ Found h start stop n → (number : ℕ)
-        → number ≡ constraintBar c s (objectIn (take end run) h start stop) → (number ≡ 0 → ⊥) → Looks c s run end (record { number = number; place = place })
-    looks-barred e number q z = record { barred = λ x. pass-barred end p place w e number q z; free = λ x. absurd (z x) }
+  module _ (end : ℕ) (p : Cursor) (place : ℕ) (w : Pass c s run end p place) (os : List Object) (f : readRun run ≡ wellFormed os) where
+    -- no test bars any object
+    pub pass-clear : stepAt (take end run) p ≡ End → entryAt run end ≡ Nothing → BarsFirst c s os (record { number = 0; place = place })
+    pass-clear d e =
+        let r = run-objects run os f in
+        let a = run-end run end p (w .earlier) (w .walked) d e in
+        let q : os ≡ w .earlier = let x = r .objects in cc in
+        rw q (record { number = sym (w .clear); place = w .count ∙ sym (index-none (constraintBar c s) (w .earlier) (w .clear)) })
 
-    pub looks-ended : stepAt (take end run) p ≡ End → Looks c s run end (record { number = 0; place = place })
-    looks-ended e = record { barred = λ x. absurd (x refl); free = λ x. record { cursor = p; pass = w; ended = e } }
+    -- no object of a well-formed run is cut short, and no option
+    pub pass-whole : stepAt (take end run) p ≡ CutShort → BarsFirst c s os (record { number = 0; place = place })
+    pass-whole e = absurd (Option·none-ne-some os (sym (run-short run end p (w .earlier) (w .walked) e) ∙ run-objects run os f .objects))
 
-    pub looks-whole : WellFormed run → stepAt (take end run) p ≡ CutShort → Looks c s run end (record { number = 0; place = place })
-    looks-whole f e = absurd (Option·none-ne-some (f .objects) (sym (run-short run end p (w .earlier) (w .walked) e) ∙ run-objects run (f .objects) (f .read) .objects))
-
-  -- behind one
-  module _ (end : ℕ) (b : Barring) (l : Looks c s run end b) (z : b .number ≡ 0) where
-    pub free-enter : {q : Cursor} {e : ℕ} → entryAt run end ≡ Into q e → Pass c s run e q (b .place)
-    free-enter f = let w = l .free z in pass-enter end (w .cursor) (b .place) (w .pass) (w .ended) f
-
-    module _ (os : List Object) (f : readRun run ≡ wellFormed os) where
-      -- no test bars any object
-      pub free-clear : entryAt run end ≡ Nothing → BarsFirst c s os b
-      free-clear e =
-          let w = l .free z in
-          let r = run-objects run os f in
-          let a = run-end run end (w .cursor) (w .pass .earlier) (w .pass .walked) (w .ended) e in
-          let q : os ≡ w .pass .earlier = let x = r .objects in cc in
-          rw q (record { number = z ∙ sym (w .pass .clear); place = w .pass .count ∙ sym (index-none (constraintBar c s) (w .pass .earlier) (w .pass .clear)) })
-
-      -- no option of a well-formed run is cut short
-      pub free-uncut : entryAt run end ≡ Short → BarsFirst c s os b
-      free-uncut e = let w = l .free z in absurd (Option·none-ne-some os (sym (run-cut run end (w .cursor) (w .pass .earlier) (w .pass .walked) (w .ended) e) ∙ run-objects run os f .objects))
+    pub pass-uncut : stepAt (take end run) p ≡ End → entryAt run end ≡ Short → BarsFirst c s os (record { number = 0; place = place })
+    pass-uncut d e = absurd (Option·none-ne-some os (sym (run-cut run end p (w .earlier) (w .walked) d e) ∙ run-objects run os f .objects))

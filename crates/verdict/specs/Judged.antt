@@ -3,7 +3,7 @@ use mathlib.Core.Path.{_≡_}
 use Prim.Native.Nat.{ℕ}
 use mathlib.Core.Bool.{Bool, true, cond}
 use mathlib.Core.List.{List}
-use lib.ListN.{length, take}
+use lib.ListN.{length}
 use lib.Dec.{eqb}
 use Rattle.model.specs.declared.Neighbour.{Neighbour}
 use Rattle.model.specs.declared.Summary.{Summary}
@@ -14,10 +14,6 @@ use Rattle.model.specs.Reading.{shaped, wellFormed}
 use Rattle.model.specs.Run.{readRun}
 use Rattle.model.specs.Constraint.{summary, mandatory, unknownMandatory, unmet, constraintBar}
 use Rattle.wire.specs.declared.container.Told.{Told}
-use Rattle.wire.specs.declared.objects.Cursor.{Cursor}
-use Rattle.wire.specs.declared.objects.Step.the-variants.{End}
-use Rattle.wire.specs.Step.{stepAt}
-use Rattle.wire.specs.Walk.{RunWalked}
 use Rattle.wire.specs.Reading.{toldOf}
 use Rattle.verdict.specs.declared.candidate.Barring.{Barring}
 
@@ -44,21 +40,3 @@ pub record ReadAs (count : ℕ) (asked : Bool) (told : Told) (os : List Object) 
 pub record BarsFirst (c : Neighbour) (s : Summary) (os : List Object) (b : Barring) : Type 0 where
   pub number : b .number ≡ firstOf (constraintBar c s) os
   pub place : b .place ≡ indexOf (constraintBar c s) os
-
--- the objects before a cursor of a run, which none of the tests bars, and their number
-pub record Pass (c : Neighbour) (s : Summary) (run : List ℕ) (end : ℕ) (p : Cursor) (place : ℕ) : Type 0 where
-  pub earlier : List Object
-  pub walked : RunWalked run end p earlier
-  pub clear : firstOf (constraintBar c s) earlier ≡ 0
-  pub count : place ≡ length earlier
-
--- the same at the end of a container
-pub record Passed (c : Neighbour) (s : Summary) (run : List ℕ) (end : ℕ) (place : ℕ) : Type 0 where
-  pub cursor : Cursor
-  pub pass : Pass c s run end cursor place
-  pub ended : stepAt (take end run) cursor ≡ End
-
--- what the objects of a container come to: the first that is barred in all of the run, or none up to its end
-pub record Looks (c : Neighbour) (s : Summary) (run : List ℕ) (end : ℕ) (b : Barring) : Type 0 where
-  pub barred : (b .number ≡ 0 → ⊥) → (os : List Object) → readRun run ≡ wellFormed os → BarsFirst c s os b
-  pub free : b .number ≡ 0 → Passed c s run end (b .place)

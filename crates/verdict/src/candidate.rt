@@ -7,8 +7,7 @@ ghost use Rattle.model.specs.Run.{readRun};
 ghost use Rattle.model.specs.Constraint.{summary};
 ghost use Rattle.model.specs.Verdict.{outOfRange, aheadOf, judgeReading, verdict};
 ghost use Rattle.wire.specs.Reading.{toldOf};
-ghost use Rattle.wire.specs.Start.{startOf};
-ghost use Rattle.verdict.specs.Judged.{WellFormed, ReadAs, BarsFirst, Pass, Looks};
+ghost use Rattle.verdict.specs.Judged.{WellFormed, ReadAs, BarsFirst};
 use crate::ahead;
 use crate::constraints;
 use crate::rank;
@@ -18,10 +17,8 @@ use model::Own;
 use model::Quantity;
 use model::Summary;
 use model::Verdict;
-use wire::Cursor;
 use wire::Entry;
 use wire::Reading;
-use wire::Start;
 use wire::Step;
 use wire::Told;
 
@@ -53,76 +50,55 @@ fn is_out_of_range(neighbour: Neighbour) -> bool
     1023 < neighbour.colour
 }
 
-// The first object of one container with bar 18 or 19, from a cursor on and behind so many others; or number 0, and how many there are then.
-fn barring_in(
-    neighbour: Neighbour,
-    summary: Summary,
-    run: &[u8],
-    end: usize,
-    from: Cursor,
-    before: u16,
-) -> Barring
+// The first object of a well-formed run with bar 18 or 19. The loop over a container's objects is a loop of its own, so that the steps from
+// one container to the next cost an object nothing.
+fn first_barring(neighbour: Neighbour, summary: Summary, run: &[u8]) -> Barring
     requires { ⌜ WellFormed (now run) ⌝ }
-    requires { ⌜ Pass neighbour summary (now run) end from before ⌝ }
-    ensures { λ r. ⌜ Looks neighbour summary (now (run .entry)) end r ⌝ }
-{
-    let container = &run[..end];
-    let mut cursor = from;
-    let mut place = before;
-    'objects: loop {
-        match wire::next(container, cursor) {
-            Step::Found {
-                header,
-                start,
-                end: stop,
-                next,
-            } => {
-                let body = &container[start..stop];
-                let mut bar: u8 = 18;
-                while bar < 20 {
-                    if constraints::holds(bar, neighbour, summary, header, body) {
-                        break 'objects Barring { number: bar, place };
-                    }
-                    bar += 1;
-                }
-                place += 1;
-                cursor = next;
-            }
-            Step::CutShort => {
-                break 'objects Barring { number: 0, place };
-            }
-            Step::End => {
-                break 'objects Barring { number: 0, place };
-            }
-        }
-    }
-}
-
-// The first object of a well-formed run with bar 18 or 19, container by container from its start on.
-fn first_barring(neighbour: Neighbour, summary: Summary, run: &[u8], start: Start) -> Barring
-    requires { ⌜ WellFormed (now run) ⌝ }
-    requires { ⌜ start ≡ startOf (now run) ⌝ }
     ensures { λ r. ⌜ ((os : List Object) → readRun (now (run .entry)) ≡ wellFormed os → BarsFirst neighbour summary os r) ⌝ }
 {
-    let mut cursor = start.cursor;
-    let mut end = start.end;
+    let from = wire::start_of(run);
+    let mut cursor = from.cursor;
+    let mut end = from.end;
     let mut place: u16 = 0;
-    loop {
-        let found = barring_in(neighbour, summary, run, end, cursor, place);
-        if found.number != 0 {
-            return found;
+    'run: loop {
+        let container = &run[..end];
+        'objects: loop {
+            match wire::next(container, cursor) {
+                Step::Found {
+                    header,
+                    start,
+                    end: stop,
+                    next,
+                } => {
+                    let body = &container[start..stop];
+                    let mut bar: u8 = 18;
+                    while bar < 20 {
+                        if constraints::holds(bar, neighbour, summary, header, body) {
+                            break 'run Barring { number: bar, place };
+                        }
+                        bar += 1;
+                    }
+                    place += 1;
+                    cursor = next;
+                }
+                Step::CutShort => {
+                    break 'run Barring { number: 0, place };
+                }
+                Step::End => {
+                    break 'objects;
+                }
+            }
         }
         match wire::enter(run, end) {
             Entry::Into { first, end: behind } => {
                 cursor = first;
                 end = behind;
-                place = found.place;
             }
             Entry::Short => {
-                return found;
+                break 'run Barring { number: 0, place };
             }
             Entry::Nothing => {
-                return found;
+                break 'run Barring { number: 0, place };
             }
         }
     }
@@ -148,16 +124,8 @@ fn summary_of(told: Told) -> Summary
 
 // The first object of a well-formed run with bar 18 or 19, by what was read of it: without mandatory constraints
 // there is none.
-fn barring_of(
-    neighbour: Neighbour,
-    count: u16,
-    mandatory: bool,
-    told: Told,
-    run: &[u8],
-    start: Start,
-) -> Barring
+fn barring_of(neighbour: Neighbour, count: u16, mandatory: bool, told: Told, run: &[u8]) -> Barring
     requires { ⌜ WellFormed (now run) ⌝ }
-    requires { ⌜ start ≡ startOf (now run) ⌝ }
     ensures { λ r. ⌜ ((os : List Object) → readRun (now (run .entry)) ≡ wellFormed os → ReadAs count mandatory told os → BarsFirst neighbour (summary os) os r) ⌝ }
 {
     if !mandatory {
@@ -166,16 +134,14 @@ fn barring_of(
             place: count,
         };
     }
-    first_barring(neighbour, summary_of(told), run, start)
+    first_barring(neighbour, summary_of(told), run)
 }
 
-// The verdict on a candidate past bars 11 and 12, by its run, with what is compared before the rank. Where a walk starts is found once for
-// both passes.
+// The verdict on a candidate past bars 11 and 12, by its run, with what is compared before the rank.
 fn judge_run(own: Own, neighbour: Neighbour, ahead: u8, run: &[u8]) -> Verdict
     requires { ⌜ ahead ≡ aheadOf own neighbour ⌝ }
     ensures { λ r. ⌜ r ≡ judgeReading own neighbour (readRun (now (run .entry))) ⌝ }
 {
-    let start = wire::start_of(run);
     match wire::read_run(run) {
         Reading::Refused { number, place } => Verdict::Barred { number, place },
         Reading::WellFormed {
@@ -183,7 +149,7 @@ fn judge_run(own: Own, neighbour: Neighbour, ahead: u8, run: &[u8]) -> Verdict
             mandatory,
             told,
         } => {
-            let barring = barring_of(neighbour, count, mandatory, told, run, start);
+            let barring = barring_of(neighbour, count, mandatory, told, run);
             if barring.number != 0 {
                 return Verdict::Barred {
                     number: barring.number,

@@ -10,7 +10,7 @@ use lib.Seq.{drop-cons, drop-drop, getD-drop}
 use lib.Dec.{leb, ltb, eqb}
 use borrow.Author.Tests.{le-leb, lt-leb, leb-true}
 use Rattle.wire.specs.declared.options.Entry.the-variants.{Into, Short, Nothing}
-use Rattle.wire.specs.Entry.{optionSize, entryBy, entryUpTo, entryAt}
+use Rattle.wire.specs.Entry.{optionSize, behindBy, entryBy, entryUpTo, entryAt}
 
 -- ---- the size of the option at the head
 
@@ -36,12 +36,12 @@ size-over (zero ∷ s) z h l = absurd (z refl)
 size-over (suc t ∷ []) z h l = refl
 size-over (suc t ∷ n ∷ s) z h l = rw (lt-leb n (length s) (omega arith))
 
-size-whole : (s : List ℕ) → (getD s 0 0 ≡ 0 → ⊥) → 2 + getD s 1 0 ≤ length s → optionSize s ≡ 2 + getD s 1 0
+size-whole : (s : List ℕ) → (getD s 0 0 ≡ 0 → ⊥) → 2 + getD s 1 0 ≤ length s → optionSize s ≡ suc (suc (getD s 1 0))
 unfolding optionSize
 size-whole [] z l = absurd (omega arith)
 size-whole (zero ∷ s) z l = absurd (z refl)
 size-whole (suc t ∷ []) z l = absurd (omega arith)
-size-whole (suc t ∷ n ∷ s) z l = rw (le-leb n (length s) (omega arith)) (omega arith)
+size-whole (suc t ∷ n ∷ s) z l = rw (le-leb n (length s) (omega arith))
 
 -- an option is no longer than what is there
 pub size-inside : (s : List ℕ) → optionSize s ≤ length s
@@ -63,21 +63,30 @@ module _ (bs : List ℕ) (at : ℕ) (h : at < length bs) where
   left-over : length (drop at bs) ≡ length bs - at
   left-over = length-drop at bs
 
-  pub behind-pad : getD bs at 0 ≡ 0 → at + 1 ≡ at + optionSize (drop at bs)
-  behind-pad z = rw (size-pad (drop at bs) (rw left-over (omega arith)) (here ∙ z))
+  pub one-byte : getD bs at 0 ≡ 0 → optionSize (drop at bs) ≡ 1
+  one-byte z = size-pad (drop at bs) (rw left-over (omega arith)) (here ∙ z)
 
   module _ (z : getD bs at 0 ≡ 0 → ⊥) where
     some-type : getD (drop at bs) 0 0 ≡ 0 → ⊥
     some-type e = z (sym here ∙ e)
 
-    pub behind-lone : length bs < at + 2 → at ≡ at + optionSize (drop at bs)
-    behind-lone l = rw (size-lone (drop at bs) some-type (rw left-over (omega arith))) (omega arith)
+    pub behind-lone : length bs < at + 2 → 0 ≡ behindBy at (optionSize (drop at bs))
+    behind-lone l = rw (size-lone (drop at bs) some-type (rw left-over (omega arith)))
 
-    pub behind-over : at + 2 ≤ length bs → length bs < at + 2 + getD bs (at + 1) 0 → at ≡ at + optionSize (drop at bs)
-    behind-over m l = rw (size-over (drop at bs) some-type (rw left-over (omega arith)) (rw (left-over, getD-drop at bs 1 0) (omega arith))) (omega arith)
+    pub behind-over : at + 2 ≤ length bs → length bs < at + 2 + getD bs (at + 1) 0 → 0 ≡ behindBy at (optionSize (drop at bs))
+    behind-over m l = rw (size-over (drop at bs) some-type (rw left-over (omega arith)) (rw (left-over, getD-drop at bs 1 0) (omega arith)))
 
-    pub behind-whole : at + 2 + getD bs (at + 1) 0 ≤ length bs → at + 2 + getD bs (at + 1) 0 ≡ at + optionSize (drop at bs)
+    pub behind-whole : at + 2 + getD bs (at + 1) 0 ≤ length bs → at + 2 + getD bs (at + 1) 0 ≡ behindBy at (optionSize (drop at bs))
     behind-whole l = rw (size-whole (drop at bs) some-type (rw (left-over, getD-drop at bs 1 0) (omega arith)), getD-drop at bs 1 0) (omega arith)
+
+-- what the index behind an option says of its size
+pub behind-none : (at to s : ℕ) → to ≡ behindBy at s → to ≡ 0 → s ≡ 0
+behind-none at to zero e z = refl
+behind-none at to (suc s) e z = absurd (omega arith)
+
+pub behind-some : (at to s : ℕ) → to ≡ behindBy at s → (to ≡ 0 → ⊥) → (n : ℕ) × (s ≡ suc n) × (to ≡ at + suc n)
+behind-some at to zero e z = absurd (z e)
+behind-some at to (suc s) e z = (s, refl, e)
 
 -- ---- what options lead to
 
@@ -115,20 +124,24 @@ pub entry-at : (bs : List ℕ) (at : ℕ) → at < length bs
 unfolding entryAt
 entry-at bs at h = rw (← drop-drop (optionSize (drop at bs)) at bs, drop-cons bs at 0 h) (entry-head (getD bs at 0) (drop (suc at) bs) at)
 
+pub entry-pad : (bs : List ℕ) (at : ℕ) → at < length bs → getD bs at 0 ≡ 0 → entryAt bs at ≡ entryAt bs (at + 1)
+entry-pad bs at h z = entry-at bs at h ∙ rw (one-byte bs at h z, z)
+
 -- the same by the index behind the option, as code finds it
-module _ (bs : List ℕ) (at to : ℕ) (h : at < length bs) (e : to ≡ at + optionSize (drop at bs)) where
-  pub entry-short : to ≡ at → entryAt bs at ≡ Short
-  entry-short q = let z : optionSize (drop at bs) ≡ 0 = omega arith in entry-at bs at h ∙ rw z
+module _ (bs : List ℕ) (at to : ℕ) (h : at < length bs) (e : to ≡ behindBy at (optionSize (drop at bs))) where
+  pub entry-short : to ≡ 0 → entryAt bs at ≡ Short
+  entry-short z = entry-at bs at h ∙ rw (behind-none at to (optionSize (drop at bs)) e z)
 
-  by-size : (s : ℕ) → optionSize (drop at bs) ≡ s → (to ≡ at → ⊥) → (b : Bool) → eqb (getD bs at 0) 2 && ltb (at + 2) to ≡ b
-      → entryAt bs at ≡ cond b (Into (record { at = at + 2 }) to) (entryAt bs to)
-  by-size zero q z b d = absurd (z (omega arith))
-  by-size (suc s) q z b d =
-      let m : to ≡ at + suc s = rw (e, q) in
-      entry-at bs at h ∙ rw (q, ← m, d)
+  module _ (z : to ≡ 0 → ⊥) where
+    by-size : (b : Bool) → eqb (getD bs at 0) 2 && ltb (at + 2) to ≡ b → entryAt bs at ≡ cond b (Into (record { at = at + 2 }) to) (entryAt bs to)
+    by-size b d = let (n, q, m) = behind-some at to (optionSize (drop at bs)) e z in entry-at bs at h ∙ rw (q, ← m, d)
 
-  pub entry-into : (to ≡ at → ⊥) → eqb (getD bs at 0) 2 && ltb (at + 2) to ≡ true → entryAt bs at ≡ Into (record { at = at + 2 }) to
-  entry-into z d = by-size _ refl z true d
+    pub entry-into : eqb (getD bs at 0) 2 && ltb (at + 2) to ≡ true → entryAt bs at ≡ Into (record { at = at + 2 }) to
+    entry-into d = by-size true d
 
-  pub entry-over : (to ≡ at → ⊥) → eqb (getD bs at 0) 2 && ltb (at + 2) to ≡ false → entryAt bs at ≡ entryAt bs to
-  entry-over z d = by-size _ refl z false d
+    pub entry-over : eqb (getD bs at 0) 2 && ltb (at + 2) to ≡ false → entryAt bs at ≡ entryAt bs to
+    entry-over d = by-size false d
+
+    -- it is further on
+    pub behind-further : length bs - to < length bs - at
+    behind-further = let (n, q, m) = behind-some at to (optionSize (drop at bs)) e z in omega arith

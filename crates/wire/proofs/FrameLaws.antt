@@ -1,105 +1,109 @@
--- Bars 22 and 23, option after option.
-use mathlib.Core.Path.{_≡_, refl, sym, ap, _∙_}
-use Prim.Native.Nat.{ℕ, zero, suc, _+_, _≤_, _<_}
-use native.Mathlib.Nat.{zero-add}
+-- The pass over a run's options for bars 22 and 23.
+use mathlib.Core.Path.{_≡_, refl, sym, _∙_}
+use Prim.Native.Nat.{ℕ, suc, _+_, _≤_, _<_}
+use native.Mathlib.Nat.{zero-add, add-zero}
 use native.Mathlib.Omega.{arith}
-use mathlib.Core.Bool.{Bool, true, false, cond}
-use mathlib.Core.List.{List, []}
+use mathlib.Core.Bool.{Bool, true, false, cond, true≢false}
+use mathlib.Core.List.{List}
 use mathlib.Core.Option.{Option, none, some}
 use lib.ListN.{length, drop, getD, drop-of-length-le}
+use lib.Seq.{slice}
 use lib.Dec.{ltb, eqb}
-use borrow.Author.Tests.{eq-eqb, ne-eqb, lt-ltb, le-ltb}
-use Rattle.model.specs.Reading.{isNone, readObjects}
+use borrow.Author.Tests.{ne-eqb}
+use Rattle.model.specs.Reading.{noPlace, isNone, misframed, refused, readObjects}
 use Rattle.model.specs.Cut.{keepIf}
-use Rattle.model.specs.Run.{RplOption, leading, optionsUpTo, options, containers, runObjects, optionCut, ninthContainer, readRun, optionsIn}
+use Rattle.model.specs.Run.{RplOption, leading, optionsUpTo, options, containers, objectsOf, optionsIn, joinedObjects, ninthContainer, runObjects, readRun}
+use Rattle.model.proofs.RunLaws.{framed-clear}
 use Rattle.wire.specs.declared.container.Reading.the-variants.{Refused}
-use Rattle.wire.specs.Entry.{optionSize}
-use Rattle.wire.specs.Start.{startOf}
-use Rattle.wire.specs.Frame.{frameFrom, frameBar}
+use Rattle.wire.specs.Entry.{optionSize, behindBy}
+use Rattle.wire.specs.Frame.{ninthBar, frameFrom, frameBar}
 use Rattle.wire.specs.Reading.{readingOf}
-use Rattle.model.proofs.RunLaws.{framed-options}
-use Rattle.wire.proofs.ReadLaws.{start-some}
+use Rattle.wire.proofs.EntryLaws.{one-byte, behind-none, behind-some}
 use Rattle.wire.proofs.RunWalkLaws.{optionBy, containers-by, none-at, one-at}
 
--- the options from an index on, behind so many containers
-pub record Framed (run : List ℕ) (at count : ℕ) : Type 0 where
-  pub bar : frameFrom count (options (drop at run)) ≡ frameBar run
+-- one option before others: a container counts
+leading-frame : (k t : ℕ) (d : List ℕ) (r : Option (List RplOption)) → frameFrom k (leading (optionBy t d) r) ≡ frameFrom (cond (eqb t 2) (k + 1) k) r
+leading-frame k t d none = refl
+leading-frame k t d (some os) = rw (containers-by t d os) (go (eqb t 2))
+  where
+    go : (b : Bool) → ninthBar (k + length (keepIf b d (containers os))) ≡ ninthBar (cond b (k + 1) k + length (containers os))
+    go true = let e : k + suc (length (containers os)) ≡ k + 1 + length (containers os) = omega arith in rw e
+    go false = refl
+
+-- the containers before an index between two options, which give the bar with what stands behind it
+pub record Counted (run : List ℕ) (at count : ℕ) : Type 0 where
   pub few : count ≤ at
+  pub so-far : frameBar run ≡ frameFrom count (options (drop at run))
 
-pub framed-first : (run : List ℕ) → Framed run 0 0
+pub counted-first : (run : List ℕ) → Counted run 0 0
 unfolding frameBar
-framed-first run = record { bar = refl; few = omega arith }
+counted-first run = record { few = omega arith; so-far = refl }
 
--- an option more
-counts : (t k : ℕ) (d : List ℕ) (r : Option (List RplOption)) (b : Bool) → eqb t 2 ≡ b → frameFrom k (leading (optionBy t d) r) ≡ frameFrom (cond b (k + 1) k) r
-counts t k d none b e = refl
-counts t k d (some os) true e =
-    let n : k + suc (length (containers os)) ≡ k + 1 + length (containers os) = omega arith in
-    rw (containers-by t d os, e, n)
-counts t k d (some os) false e = rw (containers-by t d os, e)
+module _ (run : List ℕ) (at k : ℕ) (w : Counted run at k) where
+  -- all options are passed
+  pub counted-end : length run ≤ at → frameBar run ≡ ninthBar k
+  unfolding options optionsUpTo containers
+  counted-end h = w .so-far ∙ rw (drop-of-length-le run h, add-zero k)
 
-module _ (run : List ℕ) (at to count : ℕ) (w : Framed run at count) (l : at < length run) (e : to ≡ at + optionSize (drop at run)) where
-  pub framed-short : to ≡ at → 22 ≡ frameBar run
-  framed-short q = let z : optionSize (drop at run) ≡ 0 = omega arith in rw (none-at run at l z) at (w .bar)
+  module _ (h : at < length run) where
+    at-option : (s : ℕ) → optionSize (drop at run) ≡ suc s → frameBar run ≡ frameFrom (cond (eqb (getD run at 0) 2) (k + 1) k) (options (drop (at + suc s) run))
+    at-option s e = w .so-far ∙ rw (one-at run at s e) (leading-frame k (getD run at 0) (slice (at + 2) (at + suc s) run) (options (drop (at + suc s) run)))
 
-  by-size : (s : ℕ) → optionSize (drop at run) ≡ s → (to ≡ at → ⊥) → (b : Bool) → eqb (getD run at 0) 2 ≡ b → Framed run to (cond b (count + 1) count)
-  by-size zero q z b d = absurd (z (omega arith))
-  by-size (suc s) q z b d =
-      let m : to ≡ at + suc s = rw (e, q) in
-      record {
-        bar = rw m (sym (counts (getD run at 0) count _ (options (drop (at + suc s) run)) b d) ∙ rw (one-at run at s q) at (w .bar));
-        few = more b;
-      }
-    where
-      more : (b : Bool) → cond b (count + 1) count ≤ to
-      more true = omega (arith, w .few)
-      more false = omega (arith, w .few)
+    pub counted-pad : getD run at 0 ≡ 0 → Counted run (at + 1) k
+    counted-pad z = record { few = omega (arith, w .few); so-far = at-option 0 (one-byte run at h z) ∙ rw z }
 
-  pub framed-container : (to ≡ at → ⊥) → getD run at 0 ≡ 2 → Framed run to (count + 1)
-  framed-container z t = by-size _ refl z true (eq-eqb (getD run at 0) 2 t)
+    module _ {to : ℕ} (e : to ≡ behindBy at (optionSize (drop at run))) where
+      -- an option is cut short
+      pub counted-cut : to ≡ 0 → 22 ≡ frameBar run
+      counted-cut z = sym (w .so-far ∙ rw (none-at run at h (behind-none at to (optionSize (drop at run)) e z)))
 
-  pub framed-other : (to ≡ at → ⊥) → (getD run at 0 ≡ 2 → ⊥) → Framed run to count
-  framed-other z t = by-size _ refl z false (ne-eqb (getD run at 0) 2 t)
+      module _ (z : to ≡ 0 → ⊥) where
+        pub counted-container : getD run at 0 ≡ 2 → Counted run to (k + 1)
+        counted-container c =
+            let (n, q, m) = behind-some at to (optionSize (drop at run)) e z in
+            record { few = omega (arith, w .few); so-far = at-option n q ∙ rw (c, ← m) }
 
-pub framed-end : (run : List ℕ) (at count : ℕ) → Framed run at count → length run ≤ at → cond (ltb 8 count) 23 0 ≡ frameBar run
-unfolding options optionsUpTo containers
-framed-end run at count w l =
-    let n : count + 0 ≡ count = omega arith in
-    let x : frameFrom count (some []) ≡ frameBar run = rw (drop-of-length-le run l) at (w .bar) in
-    rw n at x
+        pub counted-other : (getD run at 0 ≡ 2 → ⊥) → Counted run to k
+        counted-other c =
+            let (n, q, m) = behind-some at to (optionSize (drop at run)) e z in
+            record { few = omega (arith, w .few); so-far = at-option n q ∙ rw (ne-eqb (getD run at 0) 2 c, ← m) }
 
--- what a run's frame says of its reading
-module _ (bs : List ℕ) (n : ℕ) (e : n ≡ frameBar bs) where
-  by-bar : (r : Option (List RplOption)) → options bs ≡ r → n ≡ frameFrom 0 r → (n ≡ 0 → ⊥) → Refused n 65535 ≡ readingOf (readRun bs)
-  unfolding readRun
-  by-bar none q f z = rw (q, f)
-  by-bar (some os) q f z = go (ltb 8 (length (containers os))) refl
-    where
-      go : (b : Bool) → ltb 8 (length (containers os)) ≡ b → Refused n 65535 ≡ readingOf (readRun bs)
-      go true h = let x : n ≡ 23 = f ∙ rw (zero-add (length (containers os)), h) in rw (x, q, h)
-      go false h = absurd (z (f ∙ rw (zero-add (length (containers os)), h)))
+-- ---- the frame, and the reading
 
-  pub framed-barred : (n ≡ 0 → ⊥) → Refused n 65535 ≡ readingOf (readRun bs)
-  unfolding frameBar
-  framed-barred z = by-bar (options bs) refl e z
+-- a run is refused by its frame
+pub frame-refused : (run : List ℕ) → (frameBar run ≡ 0 → ⊥) → Refused (frameBar run) 65535 ≡ readingOf (readRun run)
+unfolding frameBar readRun
+frame-refused run h = go (options run) h
+  where
+    few : (os : List RplOption) (b : Bool) → (_≡_ {A = ℕ} (cond b 23 0) 0 → ⊥) → Refused (cond b 23 0) 65535 ≡ readingOf (cond b (refused 23 noPlace) (readObjects (objectsOf (containers os))))
+    few os true h = refl
+    few os false h = absurd (h refl)
 
-  clear-by : (r : Option (List RplOption)) → options bs ≡ r → n ≡ frameFrom 0 r → n ≡ 0 → (optionCut bs ≡ false) × (ninthContainer bs ≡ false)
-  clear-by none q f z = absurd (omega arith)
-  clear-by (some os) q f z = go (ltb 8 (length (containers os))) refl
-    where
-      go : (b : Bool) → ltb 8 (length (containers os)) ≡ b → (optionCut bs ≡ false) × (ninthContainer bs ≡ false)
-      go true h = absurd (let x : n ≡ 23 = f ∙ rw (zero-add (length (containers os)), h) in omega arith)
-      go false h = (rw q, rw (q, h))
+    go : (r : Option (List RplOption)) → (frameFrom 0 r ≡ 0 → ⊥)
+        → Refused (frameFrom 0 r) 65535 ≡ readingOf (cond (isNone r) (refused 22 noPlace) (cond (ltb 8 (length (containers (optionsIn r)))) (refused 23 noPlace) (readObjects (joinedObjects r))))
+    go none h = refl
+    go (some os) h = let z = zero-add (length (containers os)) in rw z (few os (ltb 8 (length (containers os))) (rw z at h))
 
-  pub framed-clear : n ≡ 0 → (optionCut bs ≡ false) × (ninthContainer bs ≡ false)
-  unfolding frameBar
-  framed-clear z = clear-by (options bs) refl e z
+-- or has neither bar, and is read by its objects
+pub frame-clear : (run : List ℕ) → frameBar run ≡ 0 → (ninthContainer run ≡ false) × (readingOf (readObjects (runObjects run)) ≡ readingOf (readRun run))
+unfolding frameBar readRun
+frame-clear run h = go (options run) h
+  where
+    few : (os : List RplOption) (b : Bool) → _≡_ {A = ℕ} (cond b 23 0) 0 → (b ≡ false) × (readingOf (readObjects (objectsOf (containers os))) ≡ readingOf (cond b (refused 23 noPlace) (readObjects (objectsOf (containers os)))))
+    few os true h = absurd (omega arith)
+    few os false h = (refl, refl)
 
-  pub framed-reads : n ≡ 0 → readingOf (readObjects (runObjects bs)) ≡ readingOf (readRun bs)
-  unfolding readRun
-  framed-reads z = let (a, b) = framed-clear z in rw (a, b)
+    go : (r : Option (List RplOption)) → frameFrom 0 r ≡ 0
+        → (ltb 8 (length (containers (optionsIn r))) ≡ false)
+        × (readingOf (readObjects (joinedObjects r)) ≡ readingOf (cond (isNone r) (refused 22 noPlace) (cond (ltb 8 (length (containers (optionsIn r)))) (refused 23 noPlace) (readObjects (joinedObjects r)))))
+    go none h = absurd (omega arith)
+    go (some os) h = few os (ltb 8 (length (containers os))) (rw (zero-add (length (containers os))) at h)
 
--- one whole container has no bar of its frame
-pub framed-none : (bs : List ℕ) (end : ℕ) → end ≡ startOf bs .end → (end ≡ 0 → ⊥) → 0 ≡ frameBar bs
-unfolding frameBar containers
-framed-none bs end e z = rw (framed-options bs (start-some bs (startOf bs) refl (λ q. z (e ∙ q))))
+-- one whole container has neither bar
+pub frame-whole : (run : List ℕ) → misframed run ≡ false → 0 ≡ frameBar run
+unfolding frameBar
+frame-whole run e = let (a, b) = framed-clear run e in go (options run) a b
+  where
+    go : (r : Option (List RplOption)) → isNone r ≡ false → ltb 8 (length (containers (optionsIn r))) ≡ false → 0 ≡ frameFrom 0 r
+    go none a b = absurd (true≢false a)
+    go (some os) a b = rw (zero-add (length (containers os)), b)

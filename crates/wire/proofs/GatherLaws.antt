@@ -16,7 +16,7 @@ use Rattle.wire.specs.declared.container.Reading.the-variants.{Refused, 
 use Rattle.wire.specs.Row.{hasBit}
 use Rattle.wire.specs.Seen.{seenFrom, withUse, hasUse, barBy}
 use Rattle.wire.specs.Mandatory.{showsMandatory}
-use Rattle.wire.specs.Gathered.{Gathers, toldIn, counted, toldBy, wholeReading}
+use Rattle.wire.specs.Gathered.{Gathers, untold, toldIn, counted, toldBy, wholeReading}
 use Rattle.wire.specs.Reading.{toldOf, readingOf}
 use Rattle.wire.proofs.SeenLaws.{seen-snoc, seen-exact}
 use Rattle.wire.proofs.ToldLaws.{told-snoc}
@@ -55,7 +55,7 @@ pub counted-none : (g : Gathered) (n s s′ f : ℕ) → n ≡ 0 → s ≡ s′
     → record { number = 0; place = g .place + 1; seen = s; hops = g .hops; latency = g .latency; etx = g .etx; flags = f } ≡ counted g n s′ f
 counted-none g n s s′ f e q = rw (e, q)
 
-pub gathers-none : Gathers (record { number = 0; place = 0; seen = 0; hops = 0; latency = 0; etx = 0; flags = 0 }) []
+pub gathers-none : Gathers untold []
 unfolding firstOf indexOf standings fromFirst showsMandatory hasBit seenFrom
 gathers-none = record { number = refl; place = refl; seen = λ e. refl; told = λ e. refl; shown = λ e. refl }
 

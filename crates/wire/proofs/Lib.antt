@@ -6,6 +6,7 @@ pub mod WalkLaws
 pub mod EntryLaws
 pub mod StartLaws
 pub mod RunWalkLaws
+pub mod FrameLaws
 pub mod TlvLaws
 pub mod BodyLaws
 pub mod BarLaws
@@ -15,5 +16,4 @@ pub mod MandatoryLaws
 pub mod GatherLaws
 pub mod ToldLaws
 pub mod ReadLaws
-pub mod FrameLaws
 pub mod PutLaws

@@ -1,6 +1,6 @@
 -- The walk over a run's objects, as every pass takes it: the objects before a cursor, and what the step there, or the entry behind its container, says of them.
 use mathlib.Core.Path.{_≡_, refl, sym, ap, _∙_}
-use Prim.Native.Nat.{ℕ, zero, suc, _+_, _-_, _*_, _≤_, _<_}
+use Prim.Native.Nat.{ℕ, zero, suc, _+_, _-_, _≤_, _<_}
 use native.Mathlib.Nat.{zero-add, add-zero, suc-add, not-suc-le-zero}
 use native.Mathlib.Omega.{arith}
 use mathlib.Core.Bool.{Bool, true, false, cond, _&&_}
@@ -164,6 +164,10 @@ enters (suc k) run at h = go (leb (length run) at) refl (λ to l. enters k run t
 enters-at : (run : List ℕ) (at : ℕ) → Enters run at (entryAt run at)
 enters-at run at = enters (suc (length run - at)) run at (omega arith)
 
+-- an entry's container ends further on
+pub enter-further : (run : List ℕ) (end : ℕ) {c : Cursor} {e : ℕ} → entryAt run end ≡ Into c e → length run - e < length run - end
+enter-further run end q = let (a, b, d, f) = rw q at (enters-at run end) in omega arith
+
 -- ---- the objects from a cursor on
 
 before-joined : (o : Object) (r s : Option (List Object)) → joined (before o r) s ≡ before o (joined r s)
@@ -274,6 +278,11 @@ module _ (run : List ℕ) (end : ℕ) (p : Cursor) (es : List Object) (w : RunWa
 
   pub run-end : stepAt (take end run) p ≡ End → entryAt run end ≡ Nothing → runObjects run ≡ some es
   run-end d q = w .so-far ∙ rw (from-nothing run end p d q) (ap some (append-nil es))
+
+-- a cursor that a walk has come to, whatever the objects before it
+pub record Reached (run : List ℕ) (end : ℕ) (p : Cursor) : Type 0 where
+  pub earlier : List Object
+  pub walked : RunWalked run end p earlier
 
 -- ---- the walk, and the model's objects
 

@@ -14,6 +14,11 @@ optionSize (zero ∷ bs) = 1
 optionSize (suc t ∷ []) = 0
 optionSize (suc t ∷ n ∷ bs) = cond (leb n (length bs)) (suc (suc n)) 0
 
+-- the index behind an option by its own index and its size; 0 where it is cut short
+abbrev pub behindBy : (at size : ℕ) → ℕ
+behindBy at zero = 0
+behindBy at (suc s) = at + suc s
+
 -- by the size and the type of the option at an index: cut short; a container with data; or what options behind it lead to
 abbrev pub entryBy : (size type at : ℕ) → (behind : Entry) → Entry
 entryBy zero t at e = Short

@@ -1,25 +1,20 @@
 // A whole run, or a lone container: the bars of its frame, 14, then the first object with 15, 16 or 17; or what later passes ask of it.
 ghost use mathlib.Core.Path.{_≡_};
 ghost use Prim.Native.Nat.{_<_};
-ghost use mathlib.Core.Bool.{true, false};
+ghost use mathlib.Core.Bool.{false, not};
 ghost use mathlib.Core.List.{List};
 ghost use Rattle.model.specs.Object.{Object};
 ghost use Rattle.model.specs.Reading.{readObjects, reading};
-ghost use Rattle.model.specs.Run.{ninthContainer, runObjects, readRun};
-ghost use Rattle.wire.specs.Start.{startOf};
-ghost use Rattle.wire.specs.Walk.{Inside};
-ghost use Rattle.wire.specs.Gathered.{Gathers, wholeReading, wholeFrom, barredBy, Pass, Comes};
-ghost use Rattle.wire.specs.declared.container.Gone.the-variants.{Stopped};
+ghost use Rattle.model.specs.Run.{objectCut, ninthContainer, runObjects, readRun};
+ghost use Rattle.wire.specs.Gathered.{Gathers, wholeReading, barredBy};
 ghost use Rattle.wire.specs.Reading.{readingOf};
 use crate::gathered;
 use crate::gathered::Gathered;
 use crate::mandatory;
 use crate::objects;
-use crate::objects::Cursor;
 use crate::objects::Step;
 use crate::options;
 use crate::options::Entry;
-use crate::options::Start;
 
 // What a run tells the tests of its constraints: one more than the count of its HP metric, 0 for none; the latency and the ETX that it
 // received, where a metric adds them up along the path, else 0.
@@ -43,27 +38,6 @@ pub enum Reading {
     },
 }
 
-// What the objects of one container come to: all of them are gathered, and none has a bar; or one has a bar or is cut short, before a cursor.
-pub enum Gone {
-    Ended(Gathered),
-    Stopped {
-        cursor: Cursor,
-        number: u8,
-        place: usize,
-    },
-}
-
-// The pass is over before a cursor.
-fn stopped(cursor: Cursor, number: u8, place: usize) -> Gone
-    ensures { λ r. ⌜ r ≡ Stopped cursor number place ⌝ }
-{
-    Gone::Stopped {
-        cursor,
-        number,
-        place,
-    }
-}
-
 // What is gathered of all objects, where none has a bar and their number fits.
 fn conclude(g: Gathered) -> Reading
     requires { ⌜ g .number ≡ 0 ⌝ }
@@ -81,13 +55,13 @@ fn conclude(g: Gathered) -> Reading
     }
 }
 
-// Whether no header or body runs past the end of its container, and no option is cut short, from a cursor on.
-fn is_whole(run: &[u8], stop: usize, from: Cursor) -> bool
-    requires { ⌜ Inside (now run) stop from ⌝ }
-    ensures { λ r. ⌜ r ≡ wholeFrom (now (run .entry)) stop from ⌝ }
+// Whether no object of a run runs past the end of its container, and no option is cut short.
+fn is_whole(run: &[u8]) -> bool
+    ensures { λ r. ⌜ r ≡ not (objectCut (now (run .entry))) ⌝ }
 {
-    let mut cursor = from;
-    let mut end = stop;
+    let from = options::start_of(run);
+    let mut cursor = from.cursor;
+    let mut end = from.end;
     loop {
         match objects::next(&run[..end], cursor) {
             Step::Found {
@@ -117,13 +91,12 @@ fn is_whole(run: &[u8], stop: usize, from: Cursor) -> bool
     }
 }
 
-// The first bar among 15 to 17, before a cursor; 14 comes before it. Where the objects are whole, the index of its object fits.
-fn barred(run: &[u8], end: usize, from: Cursor, number: u8, place: usize) -> Reading
-    requires { ⌜ Inside (now run) end from ⌝ }
-    requires { ⌜ (wholeFrom (now run) end from ≡ true → place < 65536) ⌝ }
-    ensures { λ r. ⌜ r ≡ barredBy (wholeFrom (now (run .entry)) end from) number place ⌝ }
+// The first bar among 15 to 17; 14 comes before it. Where the objects are whole, the index of its object fits.
+fn barred(run: &[u8], number: u8, place: usize) -> Reading
+    requires { ⌜ (objectCut (now run) ≡ false → place < 65536) ⌝ }
+    ensures { λ r. ⌜ r ≡ barredBy (objectCut (now (run .entry))) number place ⌝ }
 {
-    if is_whole(run, end, from) {
+    if is_whole(run) {
         return Reading::Refused {
             number,
             place: place as u16,
@@ -135,104 +108,78 @@ fn barred(run: &[u8], end: usize, from: Cursor, number: u8, place: usize) -> Rea
     }
 }
 
-// The objects of one container, from a cursor on, behind those that are gathered: the inner loop of the pass, so that an object costs
-// nothing of the options. An object that is cut short is bar 14 by the test of what follows a bar: a constant here would cost every object
-// an instruction.
-fn gather_container(run: &[u8], end: usize, from: Cursor, before: Gathered) -> Gone
-    requires { ⌜ Pass (now run) end from before ⌝ }
-    requires { ⌜ ninthContainer (now run) ≡ false ⌝ }
-    ensures { λ r. ⌜ Comes (now (run .entry)) end r ⌝ }
-{
-    let container = &run[..end];
-    let mut cursor = from;
-    let mut g = before;
-    loop {
-        match objects::next(container, cursor) {
-            Step::Found {
-                header,
-                start,
-                end: stop,
-                next,
-            } => {
-                g = gathered::gather(g, header, &container[start..stop]);
-                cursor = next;
-                if g.number != 0 {
-                    return stopped(cursor, g.number, g.place);
-                }
-            }
-            Step::CutShort => {
-                return stopped(cursor, g.number, g.place);
-            }
-            Step::End => {
-                return Gone::Ended(g);
-            }
-        }
-    }
-}
-
-// Bars 14 to 17, container by container, of a run without a ninth one, from its start on.
-fn read_objects(run: &[u8], start: Start) -> Reading
-    requires { ⌜ start ≡ startOf (now run) ⌝ }
+// Bars 14 to 17, in one pass over the objects of a run that has no ninth container. The loop over a container's objects is a loop of its
+// own, and an object that is cut short is bar 14 by the test of the whole run: else every object would cost more.
+fn read_objects(run: &[u8]) -> Reading
     requires { ⌜ ninthContainer (now run) ≡ false ⌝ }
     ensures { λ r. ⌜ r ≡ readingOf (readObjects (runObjects (now (run .entry)))) ⌝ }
 {
-    let mut cursor = start.cursor;
-    let mut end = start.end;
+    let from = options::start_of(run);
+    let mut cursor = from.cursor;
+    let mut end = from.end;
     let mut g = gathered::nothing();
     loop {
-        match gather_container(run, end, cursor, g) {
-            Gone::Stopped {
-                cursor: at,
-                number,
-                place,
-            } => {
-                return barred(run, end, at, number, place);
+        let container = &run[..end];
+        'objects: loop {
+            match objects::next(container, cursor) {
+                Step::Found {
+                    header,
+                    start,
+                    end: stop,
+                    next,
+                } => {
+                    g = gathered::gather(g, header, &container[start..stop]);
+                    if g.number != 0 {
+                        return barred(run, g.number, g.place);
+                    }
+                    cursor = next;
+                }
+                Step::CutShort => {
+                    return barred(run, g.number, g.place);
+                }
+                Step::End => {
+                    break 'objects;
+                }
             }
-            Gone::Ended(all) => match options::enter(run, end) {
-                Entry::Into { first, end: behind } => {
-                    g = all;
-                    cursor = first;
-                    end = behind;
-                }
-                Entry::Short => {
-                    return Reading::Refused {
-                        number: 14,
-                        place: 65535,
-                    };
-                }
-                Entry::Nothing => {
-                    return conclude(all);
-                }
-            },
+        }
+        match options::enter(run, end) {
+            Entry::Into { first, end: behind } => {
+                cursor = first;
+                end = behind;
+            }
+            Entry::Short => {
+                return barred(run, g.number, g.place);
+            }
+            Entry::Nothing => {
+                return conclude(g);
+            }
         }
     }
 }
 
-// Reads a lone container: bar 13, then its objects.
-pub fn read(container: &[u8]) -> Reading
-    ensures { λ r. ⌜ r ≡ readingOf (reading (now (container .entry))) ⌝ }
-{
-    let start = options::start_of(container);
-    if start.end == 0 {
-        return Reading::Refused {
-            number: 13,
-            place: 65535,
-        };
-    }
-    read_objects(container, start)
-}
-
-// Reads a run: bars 22 and 23, which one whole container does not have, then its joined objects.
+// Reads a run: bars 22 and 23, then its joined objects.
 pub fn read_run(run: &[u8]) -> Reading
     ensures { λ r. ⌜ r ≡ readingOf (readRun (now (run .entry))) ⌝ }
 {
-    let start = options::start_of(run);
-    let number = options::frame_bar(run, start.end);
+    let number = options::frame(run);
     if number != 0 {
         return Reading::Refused {
             number,
             place: 65535,
         };
     }
-    read_objects(run, start)
+    read_objects(run)
+}
+
+// Reads a lone container: bar 13, then as a run.
+pub fn read(container: &[u8]) -> Reading
+    ensures { λ r. ⌜ r ≡ readingOf (reading (now (container .entry))) ⌝ }
+{
+    if options::is_misframed(container) {
+        return Reading::Refused {
+            number: 13,
+            place: 65535,
+        };
+    }
+    read_run(container)
 }

@@ -1,4 +1,4 @@
-// What the reading pass gathers of a container's objects, one behind another. Each role has its own way through the bars, so that an
+// What the reading pass gathers of a run's objects, one behind another. Each role has its own way through the bars, so that an
 // object meets no test of another one.
 ghost use mathlib.Core.Path.{_≡_};
 ghost use Prim.Native.Nat.{_^_, _<_};
@@ -10,7 +10,7 @@ ghost use Rattle.model.specs.Table.{row};
 ghost use Rattle.model.specs.Reading.{fixedShape};
 ghost use Rattle.wire.specs.Step.{objectOf};
 ghost use Rattle.wire.specs.Seen.{withUse};
-ghost use Rattle.wire.specs.Gathered.{Gathers, counted, toldBy};
+ghost use Rattle.wire.specs.Gathered.{Gathers, untold, counted, toldBy};
 use crate::bars;
 use crate::mandatory;
 use crate::numbers;
@@ -34,7 +34,7 @@ pub struct Gathered {
 
 // Of no object.
 pub(crate) fn nothing() -> Gathered
-    ensures { λ r. ⌜ r ≡ record { number = 0; place = 0; seen = 0; hops = 0; latency = 0; etx = 0; flags = 0 } ⌝ }
+    ensures { λ r. ⌜ r ≡ untold ⌝ }
 {
     Gathered {
         number: 0,

@@ -1,9 +1,9 @@
 // A run of RPL options: where a walk over its objects starts, and how it goes on from one container to the next.
 ghost use mathlib.Core.Path.{_≡_};
-ghost use Prim.Native.Nat.{_+_, _<_};
-ghost use lib.ListN.{length, drop};
+ghost use Prim.Native.Nat.{_<_};
+ghost use lib.ListN.{length, drop, getD};
 ghost use Rattle.model.specs.Reading.{misframed};
-ghost use Rattle.wire.specs.Entry.{optionSize, entryAt};
+ghost use Rattle.wire.specs.Entry.{optionSize, behindBy, entryAt};
 ghost use Rattle.wire.specs.Start.{startOf};
 ghost use Rattle.wire.specs.Frame.{frameBar};
 use crate::objects;
@@ -51,23 +51,21 @@ pub fn start_of(run: &[u8]) -> Start
     }
 }
 
-// The index behind the option at an index; that index itself where the option is cut short.
+// The index behind an option with a length, by the index of its type; 0 where it is cut short.
 fn behind_option(run: &[u8], at: usize) -> usize
     requires { ⌜ at < length (now run) ⌝ }
-    ensures { λ r. ⌜ r ≡ at + optionSize (drop at (now (run .entry))) ⌝ }
+    requires { ⌜ (getD (now run) at 0 ≡ 0 → ⊥) ⌝ }
+    ensures { λ r. ⌜ r ≡ behindBy at (optionSize (drop at (now (run .entry)))) ⌝ }
 {
-    if run[at] == 0 {
-        return at + 1;
-    }
     let n = run.len();
     let start = at + 2;
     if n < start {
-        return at;
+        return 0;
     }
     let size = run[at + 1] as usize;
     let end = start + size;
     if n < end {
-        return at;
+        return 0;
     }
     end
 }
@@ -79,52 +77,53 @@ pub fn enter(run: &[u8], from: usize) -> Entry
     let n = run.len();
     let mut at = from;
     while at < n {
-        let end = behind_option(run, at);
-        if end == at {
-            return Entry::Short;
+        if run[at] == 0 {
+            at += 1;
+        } else {
+            let end = behind_option(run, at);
+            if end == 0 {
+                return Entry::Short;
+            }
+            let start = at + 2;
+            if (run[at] == 2) & (start < end) {
+                return Entry::Into {
+                    first: objects::cursor_at(start),
+                    end,
+                };
+            }
+            at = end;
         }
-        let start = at + 2;
-        if (run[at] == 2) & (start < end) {
-            return Entry::Into {
-                first: objects::cursor_at(start),
-                end,
-            };
-        }
-        at = end;
     }
     Entry::Nothing
 }
 
-// Bar 22 or 23 of a run, 0 for none: its options, one after another. A container has two bytes or more, so that their number fits.
-fn frame(run: &[u8]) -> u8
+// Bar 22 or 23 of a run, 0 for none: by its options, one after another, but one whole container has neither. Their number fits, since a
+// container has two bytes or more.
+pub(crate) fn frame(run: &[u8]) -> u8
     ensures { λ r. ⌜ r ≡ frameBar (now (run .entry)) ⌝ }
 {
+    if !is_misframed(run) {
+        return 0;
+    }
     let n = run.len();
     let mut at: usize = 0;
     let mut count: usize = 0;
     while at < n {
-        let end = behind_option(run, at);
-        if end == at {
-            return 22;
+        if run[at] == 0 {
+            at += 1;
+        } else {
+            let end = behind_option(run, at);
+            if end == 0 {
+                return 22;
+            }
+            if run[at] == 2 {
+                count += 1;
+            }
+            at = end;
         }
-        if run[at] == 2 {
-            count += 1;
-        }
-        at = end;
     }
     if 8 < count {
         return 23;
     }
     0
-}
-
-// The same by the end of the container that a walk over the run starts in: one whole container has neither.
-pub(crate) fn frame_bar(run: &[u8], end: usize) -> u8
-    requires { ⌜ end ≡ startOf (now run) .end ⌝ }
-    ensures { λ r. ⌜ r ≡ frameBar (now (run .entry)) ⌝ }
-{
-    if end != 0 {
-        return 0;
-    }
-    frame(run)
 }

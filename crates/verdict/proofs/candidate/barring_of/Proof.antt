@@ -1,4 +1,3 @@
-use mathlib.Core.Path.{sym, _∙_}
 use borrow.Author.Needs.{needs}
 use borrow.Author.Tests.{not-true}
 use Rattle.verdict.proofs.JudgeLaws.{bars-none, bars-by}
@@ -12,7 +11,7 @@ summary-of-requires : tie.Need-summary-of-requires
 summary-of-requires c κs = search needs
 
 first-barring-requires : tie.Need-first-barring-requires
-first-barring-requires c κs = (c .before .before .before .pre .0, c .before .before .before .pre .1)
+first-barring-requires c κs = c .before .before .before .pre
 
 returns-2 : tie.Need-returns-2
 returns-2 c = λ os q w. bars-by _ _ _ _ w (c .before .summary-of .ensures) (c .first-barring .ensures os q)

@@ -1,44 +1,20 @@
-use Rattle.wire.proofs.FrameLaws.{framed-barred, framed-clear, framed-reads}
-use Prim.Native.Nat.{ℕ, zero, suc, _+_, _-_, _*_, _^_, _≤_, _<_}
-use mathlib.Core.Path.{_≡_, refl, sym, ap, _∙_}
-use mathlib.Core.List.{List, [], _∷_, _++_, map}
-use mathlib.Core.Logic.{⊎-elim}
-use mathlib.Core.Bool.{Bool, true, false}
-use native.Mathlib.Omega.{arith}
-use native.Mathlib.Numerals.{add-one}
-use borrow.Author.Tests.{lt-ltb, le-ltb, le-leb, lt-leb, eq-eqb, ne-eqb, not-true, not-false}
-use lib.ListN.{length, getD, set, take, drop, length-set, length-take, length-drop, replicate, length-append}
-use lib.Seq.{drop-cons, take-suc, take-suc-set, set-split, getD-set-same}
+use mathlib.Core.Path.{sym, _∙_}
+use Rattle.wire.proofs.FrameLaws.{frame-refused, frame-clear}
 use borrow.Author.Needs.{needs}
 use Rattle.wire.proofs.container.read_run.Statement.{statement}
 use Rattle.wire.proofs.container.read_run.Tie as tie
-use Rattle.wire.proofs.container.read_run.Reads as reads
-use Rattle.wire.proofs.container.read_run.Lts as lts
-use Rattle.wire.proofs.container.read_objects.Reads as read-objects-reads
-use Rattle.wire.proofs.options.frame_bar.Reads as frame-bar-reads
-use Rattle.wire.proofs.options.start_of.Reads as start-of-reads
 
--- src/container.rt:186:9
-start-of-requires : tie.Need-start-of-requires
-start-of-requires c κs = search needs
+frame-requires : tie.Need-frame-requires
+frame-requires c κs = search needs
 
--- src/container.rt:187:9
-frame-bar-requires : tie.Need-frame-bar-requires
-frame-bar-requires c κs = ap (λ x. x .end) (c .start-of .ensures)
-
--- src/container.rt:189:9
 returns : tie.Need-returns
-returns c = framed-barred _ _ (c .before .frame-bar .ensures) (c .if1 .taken)
+returns c = rw (c .before .frame .ensures) (frame-refused _ (λ z. c .if1 .taken (c .before .frame .ensures ∙ z)))
 
--- src/container.rt:194:5
 read-objects-requires : tie.Need-read-objects-requires
-read-objects-requires c κs = (c .before .before .start-of .ensures, framed-clear _ _ (c .before .frame-bar .ensures) (c .if1 .left) .1)
+read-objects-requires c κs = frame-clear _ (sym (c .before .frame .ensures) ∙ c .if1 .left) .0
 
--- src/container.rt:183:1
 returns-2 : tie.Need-returns-2
-returns-2 c = c .read-objects .ensures ∙ framed-reads _ _ (c .before .before .frame-bar .ensures) (c .before .if1 .left)
+returns-2 c = c .read-objects .ensures ∙ frame-clear _ (sym (c .before .before .frame .ensures) ∙ c .before .if1 .left) .1
 
 pub read-run-spec : {M : Type 1} → statement M
-read-run-spec =
-    tie.close
-    (tie.spec start-of-requires frame-bar-requires returns read-objects-requires returns-2)
+read-run-spec = tie.close (tie.spec frame-requires returns read-objects-requires returns-2)
