@@ -290,7 +290,16 @@ fn feed_line(line: &[u8], from: usize, before: Fed, kept: &mut [u8]) -> Parted
     Parted::Kept(fed)
 }
 
-// The bytes behind `part`, which ends at an index: what is kept of the run stands from where the lent bytes of its candidate begin.
+// Feeds the bytes of a line from an index on: what is kept of the run stands where its candidate's lent bytes begin.
+fn feed_behind(line: &[u8], end: usize, s: State, lent: &mut [u8]) -> Parted
+    requires { ⌜ end ≤ length (now line) ⌝ }
+    requires { ⌜ s .from ≤ length (now lent) ⌝ }
+{
+    let from = s.from;
+    feed_line(line, end, s.fed, &mut lent[from..])
+}
+
+// The bytes behind `part`, which ends at an index.
 fn part(
     line: &[u8],
     end: usize,
@@ -307,7 +316,7 @@ fn part(
     if LAST_START < from {
         return stop(end, s, out, Fault::TooManyBytes, names::NONE);
     }
-    match feed_line(line, end, s.fed, &mut lent[from..]) {
+    match feed_behind(line, end, s, &mut lent[..]) {
         Parted::Kept(fed) => {
             let mut t = with(s, names::PART);
             let row = s.count * state::ROW;
