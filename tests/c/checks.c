@@ -1,8 +1,9 @@
-/* include/gardhnosk.h against the library: layout, the passage of every field, every number, and the five functions. */
+/* include/gardhnosk.h against the library: layout, the passage of every field, every number, and the six functions. */
 #include "helpers.h"
 #include "reasons.h"
+#include "runs.h"
 
-/* ---- layout: that of the structs in crates/model/src and crates/reason/src, as repr(C) on x86-64 */
+/* ---- layout: that of the structs in crates/model/src, crates/feed/src and crates/reason/src, as repr(C) on x86-64 */
 
 typedef struct {
     const char *name;
@@ -23,6 +24,7 @@ static const layout_t layout[] = {
     SIZE(candidates, 640), AT(candidates, at, 0),
     SIZE(answer, 58), AT(answer, refusal, 0), AT(answer, parent, 1), AT(answer, rank, 2), AT(answer, verdicts, 4),
     AT(answer, places, 20), AT(answer, bits, 52), AT(answer, count, 54), AT(answer, leaf, 55), AT(answer, size, 56),
+    SIZE(fed, 6), AT(fed, size, 0), AT(fed, phase, 2), AT(fed, keep, 3), AT(fed, missing, 4), AT(fed, count, 5),
     SIZE(reason, 12), AT(reason, refusal, 0), AT(reason, kind, 1), AT(reason, number, 2), AT(reason, parent, 3), AT(reason, criterion, 4),
     AT(reason, place, 6), AT(reason, value, 8), AT(reason, against, 10),
     SIZE(finding, 32), AT(finding, way, 0), AT(finding, which, 8), AT(finding, asked, 16), AT(finding, found, 24),
@@ -132,7 +134,7 @@ static const passage_t candidate_passages[] = {
     {"other bits", ETX_TO_256, NO_FIELD, NO_FIELD, NEIGHBOUR(flags), 0, 0x80 | GARDHNOSK_GROUNDED, VERDICT, GARDHNOSK_BAR_UNMET,
      GARDHNOSK_BAR_UNMET},
     {"start", EMPTY, NO_FIELD, NO_FIELD, CANDIDATE(start), 0, 1, VERDICT, GARDHNOSK_UNBARRED, GARDHNOSK_BAR_OUTSIDE},
-    {"size", EMPTY, NO_FIELD, NO_FIELD, CANDIDATE(size), 2, 1, VERDICT, GARDHNOSK_UNBARRED, GARDHNOSK_BAR_FRAME},
+    {"size", EMPTY, NO_FIELD, NO_FIELD, CANDIDATE(size), 2, 1, VERDICT, GARDHNOSK_UNBARRED, GARDHNOSK_BAR_OPTION},
 };
 
 static void check_passage(const char *of, const passage_t *row, size_t position)
@@ -172,7 +174,7 @@ static const verdict_t verdicts[16] = {
     {EMPTY, NEIGHBOUR(rank), 2048, GARDHNOSK_UNBARRED, GARDHNOSK_NO_PLACE},
     {EMPTY, NEIGHBOUR(sp), 0, GARDHNOSK_BAR_NUMBERS, GARDHNOSK_NO_PLACE},
     {EMPTY, CANDIDATE(start), 600, GARDHNOSK_BAR_OUTSIDE, GARDHNOSK_NO_PLACE},
-    {"05 00", NO_FIELD, GARDHNOSK_BAR_FRAME, GARDHNOSK_NO_PLACE},
+    {"05 01", NO_FIELD, GARDHNOSK_BAR_OPTION, GARDHNOSK_NO_PLACE},
     {"02 03 07 00 00", NO_FIELD, GARDHNOSK_BAR_OBJECT, GARDHNOSK_NO_PLACE},
     {"02 09 C8 00 80 00 07 00 00 01 00", NO_FIELD, GARDHNOSK_BAR_BODY, 1},
     {"02 12 C8 00 80 02 00 00 07 00 00 02 00 01 07 00 00 02 00 01", NO_FIELD, GARDHNOSK_BAR_REPEAT, 2},
@@ -185,7 +187,7 @@ static const verdict_t verdicts[16] = {
     {"02 11 07 00 00 02 01 C9 02 02 00 02 08 00 C8 00 80 01 AA", NEIGHBOUR(flags), GARDHNOSK_ETX_KNOWN, GARDHNOSK_UNBARRED,
      GARDHNOSK_NO_PLACE},
     {EMPTY, NEIGHBOUR(lql), 8, GARDHNOSK_BAR_NUMBERS, GARDHNOSK_NO_PLACE},
-    {"02 04 C9 02 00 00", NO_FIELD, GARDHNOSK_BAR_UNKNOWN, 0},
+    {NINE, NO_FIELD, GARDHNOSK_BAR_CONTAINERS, GARDHNOSK_NO_PLACE},
 };
 
 static call_t call_with_all_verdicts(void)
@@ -472,7 +474,8 @@ static void check_nulls(void)
     call_t call = new_call();
     put_candidate(&call, 0, "");
     call.answer = gardhnosk_choose(call.own, call.candidates, 1, NULL, 0, call.out, call.out_size);
-    same("null", "lent", call.answer.verdicts[0], GARDHNOSK_BAR_FRAME);
+    same("null", "lent", call.answer.verdicts[0], GARDHNOSK_UNBARRED);
+    same("null", "size", call.answer.size, 2);
     call.answer = gardhnosk_choose(call.own, call.candidates, 1, NULL, 0, NULL, 0);
     same("null", "out", call.answer.refusal, GARDHNOSK_REFUSAL_OUTPUT);
     same_text("null container", out, gardhnosk_list(NULL, 0, out, sizeof out), "refused 13\n");
@@ -492,6 +495,9 @@ int main(void)
     check_leaves();
     check_colours();
     check_losses();
+    check_runs();
+    check_two_sent();
+    check_feed();
     check_reasons_of(call_with_all_verdicts());
     check_questions();
     check_findings();

@@ -37,7 +37,7 @@ typedef struct {
     size_t count;
     uint8_t lent[600];
     size_t lent_size;
-    uint8_t out[300];
+    uint8_t out[GARDHNOSK_OUTPUT_ROOM + 44];
     size_t out_size;
     gardhnosk_answer answer;
 } call_t;
