@@ -152,7 +152,7 @@ pub(crate) fn read(line: &[u8], from: usize) -> Case
         own: own_of(row),
         candidates,
         count,
-        room: (row[8] % 301) as usize,
+        room: (row[8] % 2101) as usize,
         next: given.next,
     }
 }
