@@ -57,7 +57,7 @@ fn first_barring(neighbour: Neighbour, summary: Summary, run: &[u8]) -> Barring
     ensures { λ r. ⌜ ((os : List Object) → readRun (now (run .entry)) ≡ wellFormed os → BarsFirst neighbour summary os r) ⌝ }
 {
     let from = wire::start_of(run);
-    let mut cursor = from.cursor;
+    let mut cursor = wire::first();
     let mut end = from.end;
     let mut place: u16 = 0;
     'run: loop {

@@ -5,8 +5,8 @@ use lib.ListN.{length}
 use lib.Seq.{length-take-le}
 use Rattle.wire.specs.Step.{objectIn}
 use Rattle.wire.proofs.StepLaws.{left}
-use Rattle.wire.proofs.RunWalkLaws.{step-on, enter-further}
-use Rattle.verdict.proofs.PassLaws.{Pass, pass-first, pass-found, pass-enter, pass-place, pass-tabled, pass-barred, pass-clear, pass-whole, pass-uncut}
+use Rattle.wire.proofs.RunWalkLaws.{enter-further}
+use Rattle.verdict.proofs.PassLaws.{Pass, pass-first, pass-on, pass-found, pass-enter, pass-place, pass-tabled, pass-barred, pass-clear, pass-whole, pass-uncut}
 use Rattle.verdict.proofs.HoldLaws.{Tested, none, tested-next, tested-bars, tested-clear, tested-number}
 use borrow.Author.Needs.{needs}
 use Rattle.verdict.proofs.candidate.first_barring.Statement.{statement}
@@ -33,8 +33,11 @@ abbrev μ-run : tie.MeasureT-run
 start-of-requires : tie.Need-start-of-requires Inv-loop μ-loop Inv-objects μ-objects Inv-run μ-run
 start-of-requires c κs = search needs
 
+first-requires : tie.Need-first-requires Inv-loop μ-loop Inv-objects μ-objects Inv-run μ-run
+first-requires c κs = search needs
+
 run-holds : tie.Need-run-holds Inv-loop μ-loop Inv-objects μ-objects Inv-run μ-run
-run-holds c = pass-first _ _ _ (c .before .start-of .result) (c .before .start-of .ensures)
+run-holds c = pass-first _ _ _ (c .before .start-of .result) (c .before .start-of .ensures) _ (c .first .ensures)
 
 slice-aggregate-container :
     tie.Need-slice-aggregate-container Inv-loop μ-loop Inv-objects μ-objects Inv-run μ-run
@@ -52,18 +55,18 @@ enum-known-header c = search needs
 sub-body : tie.Need-sub-body Inv-loop μ-loop Inv-objects μ-objects Inv-run μ-run
 sub-body c =
     let at-step = c .before .before .before in
-    step-on _ _ _ (sym (at-step .next .ensures) ∙ c .before .header .given .1) (at-step .before .objects .inv .walked .inside) .0
+    pass-on _ _ _ _ _ _ (at-step .before .objects .inv) (sym (at-step .next .ensures) ∙ c .before .header .given .1) .0
 
 part-body-start : tie.Need-part-body-start Inv-loop μ-loop Inv-objects μ-objects Inv-run μ-run
 part-body-start c =
     let at-step = c .before .before .before in
-    let on = step-on _ _ _ (sym (at-step .next .ensures) ∙ c .before .header .given .1) (at-step .before .objects .inv .walked .inside) in
+    let on = pass-on _ _ _ _ _ _ (at-step .before .objects .inv) (sym (at-step .next .ensures) ∙ c .before .header .given .1) in
     omega arith
 
 part-body-end : tie.Need-part-body-end Inv-loop μ-loop Inv-objects μ-objects Inv-run μ-run
 part-body-end c =
     let at-step = c .before .before .before in
-    step-on _ _ _ (sym (at-step .next .ensures) ∙ c .before .header .given .1) (at-step .before .objects .inv .walked .inside) .1
+    pass-on _ _ _ _ _ _ (at-step .before .objects .inv) (sym (at-step .next .ensures) ∙ c .before .header .given .1) .1
 
 loop-holds : tie.Need-loop-holds Inv-loop μ-loop Inv-objects μ-objects Inv-run μ-run
 loop-holds c = none
@@ -96,7 +99,7 @@ objects-less : tie.Need-objects-less Inv-loop μ-loop Inv-objects μ-objects Inv
 objects-less c =
     let found = c .before .before .before .before in
     let at-step = found .before .before in
-    step-on _ _ _ (sym (at-step .next .ensures) ∙ found .header .given .1) (at-step .before .objects .inv .walked .inside) .2
+    pass-on _ _ _ _ _ _ (at-step .before .objects .inv) (sym (at-step .next .ensures) ∙ found .header .given .1) .2
 
 objects-again : tie.Need-objects-again Inv-loop μ-loop Inv-objects μ-objects Inv-run μ-run
 objects-again c =
@@ -119,13 +122,13 @@ enum-known-first c = search needs
 run-less : tie.Need-run-less Inv-loop μ-loop Inv-objects μ-objects Inv-run μ-run
 run-less c =
     let at-entry = c .before .before .before in
-    enter-further _ _ (sym (at-entry .enter .ensures) ∙ c .before .first .given .1)
+    enter-further _ _ (sym (at-entry .enter .ensures) ∙ c .before .first2 .given .1)
 
 run-again : tie.Need-run-again Inv-loop μ-loop Inv-objects μ-objects Inv-run μ-run
 run-again c =
     let at-entry = c .before .before .before in
     let at-step = at-entry .before .before .before in
-    pass-enter _ _ _ _ _ _ (at-step .before .objects .inv) (sym (at-step .next .ensures) ∙ at-entry .before .enum-told2 .given .1) (sym (at-entry .enter .ensures) ∙ c .before .first .given .1)
+    pass-enter _ _ _ _ _ _ (at-step .before .objects .inv) (sym (at-step .next .ensures) ∙ at-entry .before .enum-told2 .given .1) (sym (at-entry .enter .ensures) ∙ c .before .first2 .given .1)
 
 enum-told-3 : tie.Need-enum-told-3 Inv-loop μ-loop Inv-objects μ-objects Inv-run μ-run
 enum-told-3 c = search needs
@@ -169,6 +172,7 @@ first-barring-spec =
     Inv-run
     μ-run
     start-of-requires
+    first-requires
     run-holds
     slice-aggregate-container
     objects-holds
