@@ -4,7 +4,7 @@ use Prim.Native.Nat.{ℕ, zero, suc, _-_, _≤_}
 use native.Mathlib.Omega.{arith}
 use mathlib.Core.Bool.{Bool, true, false, cond}
 use mathlib.Core.List.{List, [], _∷_, _++_}
-use mathlib.Core.Option.{some}
+use mathlib.Core.Option.{some, Option·some-injective}
 use lib.ListN.{length, take, drop, set, getElem?}
 use lib.Seq.{length-take-le}
 use lib.Dec.{ltb, eqb}
@@ -13,13 +13,18 @@ use Rattle.model.specs.declared.Own.{Own}
 use Rattle.model.specs.declared.Candidate.{Candidate}
 use Rattle.model.specs.declared.Choice.{Choice}
 use Rattle.model.specs.declared.Choice.the-variants.{Nobody, Parent}
+use Rattle.model.specs.declared.Offer.{Offer}
 use Rattle.model.specs.declared.Verdict.{Verdict}
+use Rattle.model.specs.declared.Verdict.the-variants.{Unbarred, Barred}
 use Rattle.model.specs.RoundTrip.{Bytes}
+use Rattle.model.specs.Reading.{noPlace}
 use Rattle.model.specs.Run.{readRun, concat}
-use Rattle.model.specs.Verdict.{runOf, verdict}
-use Rattle.model.specs.Choice.{verdicts, outgoingAt, outgoing, call}
+use Rattle.model.specs.Verdict.{badNumbers, runOf, outside, judgeReading, verdict}
+use Rattle.model.specs.Choice.{currentOf, verdicts, choiceOf, outgoingAt, outgoing, call}
 use Rattle.model.specs.Unknown.{Each, nil, cons}
 use Rattle.model.proofs.ByteLaws.{part-bytes, first-byte}
+use Rattle.model.proofs.VerdictLaws.{admitted}
+use Rattle.model.proofs.ChoiceLaws.{choose-unbarred}
 use Rattle.feed.specs.declared.bytes.Fed.{Fed}
 use Rattle.feed.specs.Feeding.{Feeding, between, Phase, unfed, feedByte, feed}
 use Rattle.feed.specs.Step.{state, stored, stepped, steppedIn, fedBytes, fedBytesIn, fed, fedIn}
@@ -65,8 +70,8 @@ fed-in-reads ps l h long =
 -- ---- verdicts and calls
 
 module _ (lent lent′ : List ℕ) (c c′ : Candidate) (b : FedBeside lent lent′ c c′) where
-  same-reading : readRun (runOf lent′ c′) ≡ readRun (runOf lent c)
-  same-reading = go (runOf lent′ c′) (b .came)
+  same-reading : outside lent c ≡ false → readRun (runOf lent′ c′) ≡ readRun (runOf lent c)
+  same-reading i = go (runOf lent′ c′) (b .came i)
     where
       go : (r : List ℕ) → Came (runOf lent c) r → readRun r ≡ readRun (runOf lent c)
       go r as-it-is = refl
@@ -74,10 +79,15 @@ module _ (lent lent′ : List ℕ) (c c′ : Candidate) (b : FedBeside lent lent
 
   same-verdict : (own : Own) → verdict own lent′ c′ ≡ verdict own lent c
   unfolding verdict
-  same-verdict own = rw (b .numbers, b .inside, b .inside′, same-reading)
+  same-verdict own = rw (b .numbers, b .inside) (go (outside lent c) refl)
+    where
+      go : (x : Bool) → outside lent c ≡ x → cond (badNumbers own (c .neighbour)) (Barred 11 noPlace) (cond x (Barred 12 noPlace) (judgeReading own (c .neighbour) (readRun (runOf lent′ c′))))
+          ≡ cond (badNumbers own (c .neighbour)) (Barred 11 noPlace) (cond x (Barred 12 noPlace) (judgeReading own (c .neighbour) (readRun (runOf lent c))))
+      go true e = refl
+      go false e = rw (same-reading e)
 
-  same-outgoing : (own : Own) → outgoingAt own lent′ (some c′) ≡ outgoingAt own lent (some c)
-  same-outgoing own = rw (b .numbers, same-reading)
+  same-outgoing : (own : Own) → outside lent c ≡ false → outgoingAt own lent′ (some c′) ≡ outgoingAt own lent (some c)
+  same-outgoing own i = rw (b .numbers, same-reading i)
 
 module _ (own : Own) (lent lent′ : List ℕ) where
   same-count : (cs cs′ : List Candidate) → Each (FedBeside lent lent′) cs cs′ → length cs′ ≡ length cs
@@ -88,19 +98,24 @@ module _ (own : Own) (lent lent′ : List ℕ) where
   same-verdicts cs cs′ nil = refl
   same-verdicts cs cs′ (cons r e) = rw (same-verdict lent lent′ _ _ r own, same-verdicts _ _ e)
 
-  same-at : (cs cs′ : List Candidate) (p : ℕ) → Each (FedBeside lent lent′) cs cs′ → outgoingAt own lent′ (getElem? cs′ p) ≡ outgoingAt own lent (getElem? cs p)
-  same-at cs cs′ p nil = refl
-  same-at cs cs′ zero (cons r e) = same-outgoing lent lent′ _ _ r own
-  same-at cs cs′ (suc p) (cons r e) = same-at _ _ p e
+  -- a candidate with an unbarred verdict is inside
+  unbarred-inside : (c : Candidate) (r : Offer) → some (verdict own lent c) ≡ some (Unbarred r) → outside lent c ≡ false
+  unbarred-inside c r e = admitted own lent c (rw (Option·some-injective (verdict own lent c) (Unbarred r) e)) .inside
 
-  same-sent : (cs cs′ : List Candidate) (ch : Choice) → Each (FedBeside lent lent′) cs cs′ → outgoing own cs′ lent′ ch ≡ outgoing own cs lent ch
+  same-at : (cs cs′ : List Candidate) (p : ℕ) (r : Offer) → getElem? (verdicts own cs lent) p ≡ some (Unbarred r) → Each (FedBeside lent lent′) cs cs′
+      → outgoingAt own lent′ (getElem? cs′ p) ≡ outgoingAt own lent (getElem? cs p)
+  same-at cs cs′ p r u nil = refl
+  same-at cs cs′ zero r u (cons b e) = same-outgoing lent lent′ _ _ b own (unbarred-inside _ r u)
+  same-at cs cs′ (suc p) r u (cons b e) = same-at _ _ p r u e
+
+  same-sent : (cs cs′ : List Candidate) (ch : Choice) → choiceOf own cs lent ≡ ch → Each (FedBeside lent lent′) cs cs′ → outgoing own cs′ lent′ ch ≡ outgoing own cs lent ch
   unfolding outgoing
-  same-sent cs cs′ Nobody e = refl
-  same-sent cs cs′ (Parent p r) e = same-at cs cs′ p e
+  same-sent cs cs′ Nobody q e = refl
+  same-sent cs cs′ (Parent p r) q e = same-at cs cs′ p r (choose-unbarred (currentOf own) (verdicts own cs lent) p r q) e
 
   same-call : (cs cs′ : List Candidate) (out : List ℕ) → Each (FedBeside lent lent′) cs cs′ → call own cs′ lent′ out ≡ call own cs lent out
   unfolding call
-  same-call cs cs′ out e = rw (same-count cs cs′ e, same-verdicts cs cs′ e) (rw (same-sent cs cs′ _ e))
+  same-call cs cs′ out e = rw (same-count cs cs′ e, same-verdicts cs cs′ e) (rw (same-sent cs cs′ _ refl e))
 
 pub fed-in-parts : FedInParts
 fed-in-parts = record {

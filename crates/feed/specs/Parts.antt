@@ -51,12 +51,11 @@ pub data Came (whole : List ℕ) : List ℕ → Type 0 where
   in-parts : (parts : List (List ℕ)) (buffer : List ℕ) → Bytes (concat parts) → 2059 ≤ length buffer → concat parts ≡ whole
       → Came whole (keptOf (fedRun parts buffer))
 
--- two candidates of the same numbers, each inside its lent bytes
+-- two candidates of the same numbers, both inside their lent bytes or both not, and if inside with the same run
 pub record FedBeside (lent lent′ : List ℕ) (c c′ : Candidate) : Type 0 where
   pub numbers : c′ .neighbour ≡ c .neighbour
-  pub inside : outside lent c ≡ false
-  pub inside′ : outside lent′ c′ ≡ false
-  pub came : Came (runOf lent c) (runOf lent′ c′)
+  pub inside : outside lent′ c′ ≡ outside lent c
+  pub came : outside lent c ≡ false → Came (runOf lent c) (runOf lent′ c′)
 
 -- the verdict, and all of a call, answer and output, are the same
 pub record FedInParts : Type 0 where
