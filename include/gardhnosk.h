@@ -10,7 +10,7 @@
  * that is still being received into, and lend the copy.
  * A pointer is valid for the size beside it; where that is 0 nothing is read or written, and it may be null. An output overlaps
  * no input. Stack, with what a call is passed, as measured: under 3 KB for gardhnosk_choose and gardhnosk_why, 2 KB for gardhnosk_meaning
- * and gardhnosk_examine, and 1 KB for gardhnosk_list, but for what a dynamic linker takes at a first call of memcpy.
+ * and gardhnosk_examine, and 1 KB for gardhnosk_list and gardhnosk_feed, but for what a dynamic linker takes at a first call of memcpy.
  */
 #ifndef GARDHNOSK_H
 #define GARDHNOSK_H
@@ -198,7 +198,8 @@ gardhnosk_answer gardhnosk_choose(gardhnosk_own own, gardhnosk_candidates candid
 /*
  * What was fed of a run so far. All zeros before the first part; any other values are answered too. Of the run at most GARDHNOSK_KEPT_ROOM
  * bytes are kept, its containers, which a call reads as all that was fed: give the buffer's index in the lent bytes as a candidate's start,
- * and size as its size, whenever you like, between two parts too.
+ * and size as its size, whenever you like, between two parts too, but not where phase is GARDHNOSK_FED_SHORT. Verdict, choice and output
+ * are then those of the whole run; what gardhnosk_examine tells of it by the ways 37 to 39 is said of the bytes kept.
  */
 typedef struct {
     uint16_t size;   /* how many bytes are kept, from the start of the buffer on */

@@ -144,7 +144,7 @@ fn one_reason(out: &mut Buffer, held: usize, rows: &Rows, count: usize, lent: &[
     let own = own_of(rows);
     let list = candidates_of(rows, count);
     let position = rows[names::WHY] as usize;
-    why::line(out, held, own, list, count, lent, position)
+    why::line(out, held, own, list, count, rows, lent, position)
 }
 
 // Puts the same of each candidate, where `reasons` asks.
@@ -158,7 +158,7 @@ fn all_reasons(out: &mut Buffer, held: usize, rows: &Rows, count: usize, lent: &
     }
     let own = own_of(rows);
     let list = candidates_of(rows, count);
-    why::lines(out, held, own, list, count, lent)
+    why::lines(out, held, own, list, count, rows, lent)
 }
 
 // Writes the reasons that are asked for.

@@ -1,9 +1,13 @@
 // The lines that tell why a candidate is the parent, or is not.
 ghost use Prim.Native.Nat.{_≤_};
 use crate::constraints;
+use crate::names;
 use crate::say;
 use crate::say::Buffer;
 use crate::sentences;
+use crate::settings;
+use crate::state;
+use crate::state::Rows;
 use model::Candidate;
 use model::Own;
 use reason::Finding;
@@ -99,12 +103,18 @@ fn finding(out: &mut Buffer, held: usize, place: u16, f: Finding) -> usize
     constraints::unmet(out, a, place, f)
 }
 
+// Whether the options of a run bar: of one that was fed in parts only what reads alike is kept, so that there is no more to tell.
+fn is_by_options(why: Reason) -> bool {
+    (why.number == 22) | (why.number == 23)
+}
+
 // Puts a reason; where it is that the candidate is barred, with what was asked and found.
 fn answer(
     out: &mut Buffer,
     held: usize,
     own: Own,
     one: Candidate,
+    parted: bool,
     lent: &[u8],
     why: Reason,
 ) -> usize
@@ -112,7 +122,7 @@ fn answer(
     ensures { λ r. ⌜ r ≤ 65536 ⌝ }
 {
     let a = told(out, held, why);
-    if why.kind != reason::BARRED {
+    if (why.kind != reason::BARRED) | (parted & is_by_options(why)) {
         return a;
     }
     let f = reason::examine(own, one, lent);
@@ -126,6 +136,7 @@ pub(crate) fn line(
     own: Own,
     list: [Candidate; 16],
     count: usize,
+    rows: &Rows,
     lent: &[u8],
     position: usize,
 ) -> usize
@@ -134,8 +145,10 @@ pub(crate) fn line(
 {
     let why = reason::explain(own, list, count, lent, position);
     let one = list[position % 16];
+    let row = (position % 16) * state::ROW + state::ROW;
+    let parted = settings::has(rows[row + state::GIVEN], names::PART);
     let a = say::between(out, held, b"why ", position as u64, b": ");
-    let b = answer(out, a, own, one, lent, why);
+    let b = answer(out, a, own, one, parted, lent, why);
     say::byte(out, b, b'\n')
 }
 
@@ -146,6 +159,7 @@ pub(crate) fn lines(
     own: Own,
     list: [Candidate; 16],
     count: usize,
+    rows: &Rows,
     lent: &[u8],
 ) -> usize
     requires { ⌜ held ≤ 65536 ⌝ }
@@ -154,7 +168,7 @@ pub(crate) fn lines(
     let mut at = held;
     let mut i = 0;
     while i < count {
-        at = line(out, at, own, list, count, lent, i);
+        at = line(out, at, own, list, count, rows, lent, i);
         i += 1;
     }
     at

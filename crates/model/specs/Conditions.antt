@@ -1,4 +1,4 @@
--- The conditions of bars 11 to 21, gathered in document 01's order.
+-- The conditions of bars 11, 12, 22, 23 and 14 to 21, gathered in the order of documents 01 and 02.
 use Prim.Native.Nat.{ℕ}
 use mathlib.Core.Bool.{Bool, not}
 use mathlib.Core.List.{List, [], _∷_, _++_}
@@ -53,7 +53,7 @@ abbrev pub barsTo19 : Own → (lent : List ℕ) → Candidate → List Bool
 barsTo19 own lent c =
     barsTo17 own lent c ++ (someHas (constraintBars (c .neighbour) (summary (objectsIn (runOf lent c)))) (objectsIn (runOf lent c)) ∷ [])
 
--- the conditions of bars 11 to 21
+-- the conditions of all bars
 abbrev pub barsTo21 : Own → (lent : List ℕ) → Candidate → List Bool
 barsTo21 own lent c = barsTo19 own lent c ++ (rankTooHigh own (c .neighbour) ∷ aboveLowest own (c .neighbour) ∷ [])
 

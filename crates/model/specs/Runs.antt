@@ -24,7 +24,7 @@ OneContainer = (bs : List ℕ) → misframed bs ≡ false → readRun bs ≡ rea
 abbrev pub OnePacked : Type 0
 OnePacked = (os : List Object) → length (join os) ≤ 255 → packed os ≡ container os
 
--- an option that is no container: Pad1, or of a type other than 2
+-- an option that is a container: of type 2
 abbrev pub isContainerOption : RplOption → Bool
 isContainerOption pad1 = false
 isContainerOption (option t d) = eqb (suc t) 2

@@ -1,4 +1,4 @@
--- The verdict on a candidate: bars 11 to 21 in document 01's order.
+-- The verdict on a candidate: bars 11, 12, 22, 23 and 14 to 21, in the order of documents 01 and 02.
 use Prim.Native.Nat.{ℕ, zero, suc, _+_, _-_, _*_, _/_, _%_}
 use mathlib.Core.Bool.{Bool, true, false, cond, _&&_, _||_}
 use mathlib.Core.List.{List, [], _∷_}

@@ -68,12 +68,12 @@ pub struct Offer {
     pub rank: Rank,
 }
 
-// A candidate: a neighbour, and where its container stands in the lent run.
+// A candidate: a neighbour, and where its run of options stands in the lent bytes.
 #[repr(C)]
 pub struct Candidate {
     pub neighbour: Neighbour,
     pub start: usize,
-    // document 01's length of the container
+    // the length of the run, document 01's length of the container
     pub size: usize,
 }
 
@@ -114,6 +114,6 @@ pub struct Answer {
     pub bits: u16,
     pub count: u8,
     pub leaf: u8,
-    // document 01's length: the bytes of the container in the output
+    // document 01's length: the bytes of all containers in the output
     pub size: u16,
 }

@@ -4,10 +4,10 @@ use Rattle.choose.proofs.why.lines.Statement.{statement}
 use Rattle.choose.proofs.why.lines.Tie as tie
 
 abbrev Inv-loop : tie.InvT-loop
-Inv-loop out₀ held own list count lent at₀ i₀ out at i = (i ≤ count) × (at ≤ 65536)
+Inv-loop out₀ held own list count rows lent at₀ i₀ out at i = (i ≤ count) × (at ≤ 65536)
 
 abbrev μ-loop : tie.MeasureT-loop
-μ-loop out₀ held own list count lent at₀ i₀ out at i = count - i
+μ-loop out₀ held own list count rows lent at₀ i₀ out at i = count - i
 
 loop-holds : tie.Need-loop-holds Inv-loop μ-loop
 loop-holds c = search needs
