@@ -5,7 +5,7 @@ use Rattle.model.proofs.Unknown.{demand3}
 use Rattle.choice.specs.Given.{given}
 use Rattle.choice.specs.Demand3.{Demand3OfCall}
 
-result-is : (r s : Result) → r .answer ≡ s .answer → r .output ≡ s .output → r ≡ s
+pub result-is : (r s : Result) → r .answer ≡ s .answer → r .output ≡ s .output → r ≡ s
 result-is r s a o = let e : _≡_ {A = Result} (record { answer = r .answer; output = r .output }) (record { answer = s .answer; output = s .output }) = rw (a, o) in e
 
 pub demand3-of-call : Demand3OfCall

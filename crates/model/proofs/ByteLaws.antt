@@ -5,7 +5,7 @@ use native.Mathlib.Omega.{arith}
 use mathlib.Core.Bool.{Bool, true, false, cond, _&&_}
 use mathlib.Core.List.{List, [], _∷_, _++_, map, append-nil}
 use mathlib.Core.Option.{some, Option·none-ne-some}
-use lib.ListN.{length, take, drop, getElem?, take-append-drop, length-append}
+use lib.ListN.{length, getD, take, drop, getElem?, take-append-drop, length-append}
 use lib.Dec.{ltb, eqb}
 use borrow.Author.Tests.{le-ltb, ltb-true, ltb-false}
 use Rattle.model.specs.declared.Quantity.{Quantity}
@@ -54,6 +54,12 @@ more-bytes b bs h g = rw (byte b h) g
 
 pub first-byte : (b : ℕ) (bs : List ℕ) → Bytes (b ∷ bs) → (b ≤ 255) × Bytes bs
 first-byte b bs h = let (p, q) = neither (ltb 255 b) (anyOf (λ x. ltb 255 x) bs) h in (ltb-false 255 b p, q)
+
+-- the byte at an index; 0 behind them
+pub byte-at : (bs : List ℕ) (i : ℕ) → Bytes bs → getD bs i 0 ≤ 255
+byte-at [] i h = omega arith
+byte-at (b ∷ bs) zero h = first-byte b bs h .0
+byte-at (b ∷ bs) (suc i) h = byte-at bs i (first-byte b bs h .1)
 
 -- ---- bodies
 

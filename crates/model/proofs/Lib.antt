@@ -34,6 +34,9 @@ pub mod Runs
 pub mod ShapeLaws
 pub mod ReadBack
 pub mod SumLaws
+pub mod HopLaws
+pub mod Folds
+pub mod Chain
 pub mod CountLaws
 pub mod Local
 pub mod Editions

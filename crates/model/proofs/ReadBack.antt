@@ -10,12 +10,12 @@ use borrow.Author.Tests.{eq-eqb, le-leb}
 use Rattle.model.specs.declared.Quantity.the-variants.{Known}
 use Rattle.model.specs.declared.Own.{Own}
 use Rattle.model.specs.declared.Neighbour.{Neighbour}
-use Rattle.model.specs.Number.{knownIf, number, firstOf}
-use Rattle.model.specs.Object.{Object, standings, fieldA, kindOf, nsa, ne, hp, Scalar, throughput, latency, etx, node, scalar, known, kind, aggregated, role}
+use Rattle.model.specs.Number.{isSet, knownIf, number, firstOf}
+use Rattle.model.specs.Object.{Object, standings, fieldA, kindOf, Node, nsa, ne, hp, Scalar, throughput, latency, etx, node, scalar, known, kind, aggregated, role}
 use Rattle.model.specs.Table.{row}
 use Rattle.model.specs.Reading.{fixedShape, objectBar}
 use Rattle.model.specs.Constraint.{linkValue}
-use Rattle.model.specs.Update.{localValue, combine, onTwo, clear0, combine1, widthOf, mostOf, aggregatedBody, updateObject}
+use Rattle.model.specs.Update.{localValue, valueOr0, combine, onTwo, clear0, combine1, widthOf, mostOf, aggregatedBody, updateObject}
 use Rattle.model.specs.ReadBack.{ReadsBack, Aggregates, NoSumWraps, CountsHop, Picked, PicksFlags, PicksEnergy, LinkWithin, AggregatesWhole}
 use Rattle.model.specs.RoundTrip.{Bytes}
 use Rattle.model.proofs.RoundTrip.{number-bigEndian, number-below}
@@ -45,7 +45,7 @@ in-field etx v h = omega arith
 
 module _ (own : Own) (c : Neighbour) (o : Object) (s : Scalar) (v : ℕ) (k : kind o ≡ scalar s) (r : role o ≡ aggregated) (l : linkValue c s ≡ Known v) (w : length (o .body) ≡ widthOf s) where
   -- what is sent is the combined value, where that fits the field
-  sent : (a : ℕ) → fieldA o ≡ a → combine a (mostOf s) (number (o .body)) v ≤ mostOf s → number (updateObject own c o .body) ≡ combine a (mostOf s) (number (o .body)) v
+  pub sent : (a : ℕ) → fieldA o ≡ a → combine a (mostOf s) (number (o .body)) v ≤ mostOf s → number (updateObject own c o .body) ≡ combine a (mostOf s) (number (o .body)) v
   unfolding updateObject localValue aggregatedBody
   sent a e h = rw (k, r, l, e, eq-eqb (length (o .body)) (widthOf s) w) (number-bigEndian (widthOf s) (combine a (mostOf s) (number (o .body)) v) (in-field s _ h))
 
@@ -65,11 +65,16 @@ byte1-onTwo f g [] h = absurd (omega arith)
 byte1-onTwo f g (x ∷ []) h = absurd (omega arith)
 byte1-onTwo f g (x ∷ y ∷ t) h = refl
 
+-- byte 1 of a node metric, combined with the local value
+pub byte1-sent : (own : Own) (c : Neighbour) (o : Object) (n : Node) → kind o ≡ node n → role o ≡ aggregated → 2 ≤ length (o .body)
+    → getD (updateObject own c o .body) 1 0 ≡ combine1 n (fieldA o) (valueOr0 (localValue own c (node n))) (getD (o .body) 1 0)
+unfolding updateObject aggregatedBody
+byte1-sent own c o n k r h = rw (k, r) (byte1-onTwo (clear0 n) (combine1 n (fieldA o) (valueOr0 (localValue own c (node n)))) (o .body) h)
+
 pub counts-hop : CountsHop
-unfolding kindOf updateObject localValue aggregatedBody
+unfolding kindOf localValue
 counts-hop own c o t r a h =
-    let k : kind o ≡ node hp = rw t in
-    let e : getD (updateObject own c o .body) 1 0 ≡ min 255 (getD (o .body) 1 0 + 1) = rw (k, r, a) (byte1-onTwo (clear0 hp) (combine1 hp 0 1) (o .body) h) in
+    let e : getD (updateObject own c o .body) 1 0 ≡ min 255 (getD (o .body) 1 0 + 1) = byte1-sent own c o hp (rw t) r h ∙ rw a in
     record { below = λ g. e ∙ omega arith; above = λ g. e ∙ omega arith }
 
 -- ---- flags and energy
@@ -82,33 +87,41 @@ picks a most x v sent e = record { larger = λ q. e ∙ rw q; smaller = λ q. e 
 flag-within : (a x v : ℕ) → combine a 1 (x % 2) (v % 2) ≤ 1
 flag-within a x v = combine-within a 1 (x % 2) (v % 2) (omega arith) (omega arith)
 
-pub picks-flags : PicksFlags
-unfolding kindOf updateObject localValue aggregatedBody
-picks-flags own c o t r h =
-    let k : kind o ≡ node nsa = rw t in
+-- NSA's flags, each combined with the own one; the other six bits are 0
+pub record FlagsSent (own : Own) (o : Object) (sent : ℕ) : Type 0 where
+  pub aggregator : sent / 2 % 2 ≡ combine (fieldA o) 1 (getD (o .body) 1 0 / 2 % 2) (own .flags / 2 % 2)
+  pub overload : sent % 2 ≡ combine (fieldA o) 1 (getD (o .body) 1 0 % 2) (own .flags % 2)
+  pub others : sent / 4 ≡ 0
+
+pub flags-sent : (own : Own) (c : Neighbour) (o : Object) → kind o ≡ node nsa → role o ≡ aggregated → 2 ≤ length (o .body)
+    → FlagsSent own o (getD (updateObject own c o .body) 1 0)
+unfolding localValue
+flags-sent own c o k r h =
     let a = fieldA o in
     let y = getD (o .body) 1 0 in
     let v = own .flags in
-    let high = combine a 1 (y / 2 % 2) (v / 2 % 2) in
-    let low = combine a 1 (y % 2) (v % 2) in
     let p : v % 4 / 2 % 2 ≡ v / 2 % 2 = omega arith in
     let q : v % 4 % 2 ≡ v % 2 = omega arith in
-    let d : getD (updateObject own c o .body) 1 0 ≡ combine1 nsa a (v % 4) y = rw (k, r) (byte1-onTwo (clear0 nsa) (combine1 nsa a (v % 4)) (o .body) h) in
-    let e : getD (updateObject own c o .body) 1 0 ≡ high * 2 + low = rw (p, q) at d in
+    let e : getD (updateObject own c o .body) 1 0 ≡ combine a 1 (y / 2 % 2) (v / 2 % 2) * 2 + combine a 1 (y % 2) (v % 2) = rw (p, q) at (byte1-sent own c o nsa k r h) in
     let m = flag-within a (y / 2) (v / 2) in
     let n = flag-within a y v in
-    record {
-      aggregator = picks a 1 (y / 2 % 2) (v / 2 % 2) _ (omega (arith, e, m, n));
-      overload = picks a 1 (y % 2) (v % 2) _ (omega (arith, e, m, n));
-      others = omega (arith, e, m, n);
-    }
+    record { aggregator = omega (arith, e, m, n); overload = omega (arith, e, m, n); others = omega (arith, e, m, n) }
+
+pub picks-flags : PicksFlags
+unfolding kindOf
+picks-flags own c o t r h =
+    let s = flags-sent own c o (rw t) r h in
+    record { aggregator = picks (fieldA o) 1 _ _ _ (s .aggregator); overload = picks (fieldA o) 1 _ _ _ (s .overload); others = s .others }
+
+-- E_E combined with the own energy, where that is known
+pub energy-sent : (own : Own) (c : Neighbour) (o : Object) → kind o ≡ node ne → role o ≡ aggregated → isSet (own .flags / 4 % 2) ≡ true → 2 ≤ length (o .body)
+    → getD (updateObject own c o .body) 1 0 ≡ combine (fieldA o) 255 (getD (o .body) 1 0) (own .energy)
+unfolding localValue
+energy-sent own c o k r l h = byte1-sent own c o ne k r h ∙ rw l
 
 pub picks-energy : PicksEnergy
-unfolding kindOf updateObject localValue aggregatedBody
-picks-energy own c o t r l h =
-    let k : kind o ≡ node ne = rw t in
-    let v = own .energy in
-    picks (fieldA o) 255 (getD (o .body) 1 0) v _ (rw (k, r, eq-eqb (own .flags / 4 % 2) 1 l) (byte1-onTwo (clear0 ne) (combine1 ne (fieldA o) v) (o .body) h))
+unfolding kindOf
+picks-energy own c o t r l h = picks (fieldA o) 255 (getD (o .body) 1 0) (own .energy) _ (energy-sent own c o (rw t) r (eq-eqb (own .flags / 4 % 2) 1 l) h)
 
 -- ---- widths and ranges
 

@@ -22,6 +22,7 @@ pub mod Counters
 pub mod Colours
 pub mod Local
 pub mod Editions
+pub mod Chain
 pub mod Unknown
 pub mod Samples
 pub mod Examples
