@@ -65,4 +65,10 @@ boundaries = record {
   packing = refl;
   eightFull = refl;
   ninthContainer = refl;
+  fieldValues = refl;
+  linkUnits = refl;
+  knownFlags = refl;
+  pathFolds = refl;
+  pathSums = refl;
+  pathStops = refl;
 }

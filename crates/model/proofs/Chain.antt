@@ -104,7 +104,8 @@ module _ (Called : Hop → Type 0) (told : (h : Hop) → Called h → ByDefiniti
     rises : next / minhop ≡ rank / minhop + unitsAt h
     unfolding resulting
     rises =
-        let e = takes (h .own) (h .candidates) (h .lent) (h .out) passes (h .parent) heard chosen-is (j .hears) in
+        let e : call (h .own) (h .candidates) (h .lent) (h .out) .answer .rank .0 ≡ c .rank .0 + unitsAt h * h .own .minhop
+        = takes (h .own) (h .candidates) (h .lent) (h .out) passes (h .parent) heard chosen-is (j .hears) in
         let n : next ≡ rank + unitsAt h * minhop = sym (j .takes) ∙ rw (told h (j .called)) (e ∙ rw (j .advertised, j .shared)) in
         let g : 1 ≤ minhop = rw (j .shared) at (unrefused (h .own) (h .candidates) (h .lent) (h .out) (passes .unrefused) .grows) in
         rw n (add-mul-div-right rank (unitsAt h) g)

@@ -13,7 +13,8 @@ use Rattle.model.specs.Update.{localValue, aggregatedBody, constraintBod
 use Rattle.model.specs.Choice.{badOwn, refusal, precedes, chooseFrom, bitsOf, outgoing, call}
 use Rattle.model.specs.Listing.{decimal, objectLine, objectLines, listing}
 use Rattle.model.specs.Cut.{cut}
+use Rattle.model.specs.Chain.{along, sumOf}
 
 unfoldable pub model : ℕ
-unfolding number firstOf indexOf splitUpTo split join standings kindOf roleOf misframed tlvsUpTo tlvsFit objectBar reading optionsUpTo options containers objectsOf readRun joinOptions cutRun concat packFrom packed unpackable linkValue fromFirst hasAll met constraintBar resulting rankTooHigh aboveLowest outOfRange badNumbers aheadOf rankBar verdict localValue aggregatedBody constraintBody recordedBody updateObject objectLeaf tooLong leafAnswer badOwn refusal precedes chooseFrom bitsOf outgoing call ones decimal objectLine objectLines listing cut
+unfolding number firstOf indexOf splitUpTo split join standings kindOf roleOf misframed tlvsUpTo tlvsFit objectBar reading optionsUpTo options containers objectsOf readRun joinOptions cutRun concat packFrom packed unpackable linkValue fromFirst hasAll met constraintBar resulting rankTooHigh aboveLowest outOfRange badNumbers aheadOf rankBar verdict localValue aggregatedBody constraintBody recordedBody updateObject objectLeaf tooLong leafAnswer badOwn refusal precedes chooseFrom bitsOf outgoing call ones decimal objectLine objectLines listing cut along sumOf
 model = 0

@@ -44,6 +44,7 @@ pub mod TypeLaws
 pub mod Computed
 pub mod Examples
 pub mod Boundaries
+pub mod ThreeHops
 pub mod ByteLaws
 pub mod TabledLaws
 pub mod ConstraintLaws

@@ -16,9 +16,11 @@ pub mod Bits
 pub mod Colours
 pub mod Editions
 pub mod Runs
+pub mod Chains
 use Rattle.model.specs.Listing.{listing}
 use Rattle.model.specs.Run.{cutRun, joinedData}
 use Rattle.model.specs.Samples.{Holds, verdictOf, passedBy, outcomeOf}
+use Rattle.model.specs.Chain.{sumOf, unitsAt}
 use Refusals.{refusals, refusedCalls, sizedRefusal, sizedOutcome}
 use Readings.{numbers, parts, ends}
 use Shapes.{lengths, shapeVerdicts, tlvs, tlvVerdicts, uses}
@@ -36,6 +38,7 @@ use Bits.{verdicts, refusals as currentBit, containers as ownBits}
 use Colours.{numbers as colourNumbers, lengths as colourLengths, uses as colourUses, links as colourLinks, bits as colourBits, bitVerdicts as colourBitVerdicts, leaves as colourLeaves, records as colourRecords, constraints as colourConstraints, lines as colourLines, cuts as colourCuts}
 use Editions.{refusals as editionRefusals, sites, siteVerdicts, earlier, compared as comparedBy, siteCriteria, contests, parents, outcomes}
 use Runs.{ends as runEnds, steps, ninths, joins, places as runPlaces, outputs, fullest, fulls}
+use Chains.{fields, valuesOf, units, knowing, knownBy, folds, folded, sums as pathTotals, stops, stoppedAt}
 
 -- the tables, each computed
 pub record Boundaries : Type 0 where
@@ -111,3 +114,10 @@ pub record Boundaries : Type 0 where
   pub packing : Holds passedBy outputs
   pub eightFull : Holds passedBy fullest
   pub ninthContainer : Holds leafGiven fulls
+  -- along a whole path
+  pub fieldValues : Holds valuesOf fields
+  pub linkUnits : Holds unitsAt units
+  pub knownFlags : Holds knownBy knowing
+  pub pathFolds : Holds folded folds
+  pub pathSums : Holds sumOf pathTotals
+  pub pathStops : Holds stoppedAt stops

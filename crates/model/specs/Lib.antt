@@ -25,5 +25,6 @@ pub mod Editions
 pub mod Chain
 pub mod Unknown
 pub mod Samples
+pub mod ThreeHops
 pub mod Examples
 pub mod Boundaries
