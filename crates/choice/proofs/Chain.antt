@@ -1,5 +1,4 @@
 -- What holds along a whole path, of what calls return.
-use mathlib.Core.Path.{_≡_}
 use Rattle.model.specs.Choice.{call}
 use Rattle.model.specs.Chain.{Hop, ByDefinition}
 use Rattle.model.proofs.Chain.{along-path-of, rank-rises-of}

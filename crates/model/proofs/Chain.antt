@@ -1,14 +1,12 @@
 -- What holds along a whole path: by induction over the chain, one argument for every field and A.
 use mathlib.Core.Path.{_≡_, refl, sym, ap, _∙_}
-use Prim.Native.Nat.{ℕ, zero, suc, _+_, _*_, _/_, _≤_, _<_, min, max}
+use Prim.Native.Nat.{ℕ, zero, suc, _+_, _*_, _/_, _≤_}
 use native.Mathlib.Nat.{add-mul-div-right}
 use native.Mathlib.Omega.{arith}
 use mathlib.Core.Bool.{true, false, not}
 use mathlib.Core.List.{List, [], _∷_, map}
 use mathlib.Core.Option.{some}
 use lib.ListN.{length, getD, getElem?, length-map}
-use lib.Dec.{eqb}
-use borrow.Author.Tests.{eqb-true}
 use Rattle.model.specs.declared.Own.{Own}
 use Rattle.model.specs.declared.Neighbour.{Neighbour}
 use Rattle.model.specs.declared.Candidate.{Candidate}
@@ -24,10 +22,11 @@ use Rattle.model.specs.Choice.{call}
 use Rattle.model.specs.Conditions.{someHas}
 use Rattle.model.specs.Exact.{leafTests}
 use Rattle.model.specs.Selection.{PreferredParent}
+use Rattle.model.specs.RoundTrip.{Bytes}
 use Rattle.model.specs.Untouched.{PassedOn, passedOn}
-use Rattle.model.specs.Chain.{Hop, ByDefinition, Joins, Chain, root, onward, Field, hops, typeAt, valueIn, localAt, knows, stopped, together, along, sumOf, unitsAt, Grown, AlongPath, Along, Rises, AlongPathHolds, RankRises}
+use Rattle.model.specs.Chain.{Hop, ByDefinition, Joins, Chain, root, onward, Field, hops, typeAt, valueIn, localAt, knows, stopped, together, along, sumOf, unitsAt, Grown, Along, Rises, AlongPathHolds, RankRises}
 use Rattle.model.proofs.BoolLaws.{neither}
-use Rattle.model.proofs.ListLaws.{at-map, map-at, none-at}
+use Rattle.model.proofs.ListLaws.{map-at, none-at}
 use Rattle.model.proofs.Readings.{same-objects}
 use Rattle.model.proofs.RunLaws.{run-objects}
 use Rattle.model.proofs.ByteLaws.{body-bytes, data-bytes}
@@ -80,11 +79,19 @@ unfolding sumOf
 ones [] = refl
 ones (h ∷ hs) = let e = ones hs in omega arith
 
+-- a value that a run of bytes tells has room
+start-within : (bs : List ℕ) (os : List Object) → Bytes bs → readRun bs ≡ wellFormed os → (f : Field) (i : ℕ) (o : Object)
+    → getElem? os i ≡ some o → o .type ≡ typeAt f → role o ≡ aggregated → valueIn f (o .body) ≤ mostIn f
+start-within bs os b read f i o at t r =
+    let body = body-bytes os i o (data-bytes bs os b (run-objects bs os read .objects)) at in
+    value-within f bs o (kind-at f o t) (aggregates-whole bs os i o read at r) b body
+
 -- ---- chains of nodes whose calls are told in a way that tells their results
 
 module _ (Called : Hop → Type 0) (told : (h : Hop) → Called h → ByDefinition h) where
   -- of a node that joins a chain
-  module _ {minhop : ℕ} {heard : List Object} {rank : ℕ} {h : Hop} {sent : List Object} {next : ℕ} (j : Joins Called minhop heard rank h sent next) where
+  module _ {minhop : ℕ} {heard : List Object} {rank : ℕ} {h : Hop} {sent : List Object} {next : ℕ}
+      (j : Joins Called minhop heard rank h sent next) where
     abbrev c : Neighbour
     c = h .parent .neighbour
 
@@ -95,7 +102,9 @@ module _ (Called : Hop → Type 0) (told : (h : Hop) → Called h → ByDefiniti
     chosen-is = rw (told h (j .called)) at (j .chosen)
 
     sent-is : sent ≡ update (h .own) c heard
-    sent-is = updates (h .own) (h .candidates) (h .lent) (h .out) passes (h .parent) heard chosen-is (j .hears) sent (rw (told h (j .called)) at (j .sends))
+    sent-is =
+        let e = rw (told h (j .called)) at (j .sends) in
+        updates (h .own) (h .candidates) (h .lent) (h .out) passes (h .parent) heard chosen-is (j .hears) sent e
 
     free-of : someHas (leafTests (h .own) c) heard ≡ false
     free-of = free (h .own) (h .candidates) (h .lent) (h .out) passes (h .parent) heard chosen-is (j .hears)
@@ -140,7 +149,8 @@ module _ (Called : Hop → Type 0) (told : (h : Hop) → Called h → ByDefiniti
 
     -- a node that joins updates the metric
     carry : {minhop : ℕ} {heard : List Object} {rank : ℕ} {h : Hop} {sent : List Object} {next : ℕ} → Joins Called minhop heard rank h sent next
-        → (hs : List Hop) (i : ℕ) (p : Object) → getElem? heard i ≡ some p → Carried hs p → Carried (h ∷ hs) (updateObject (h .own) (h .parent .neighbour) p)
+        → (hs : List Hop) (i : ℕ) (p : Object) → getElem? heard i ≡ some p → Carried hs p
+        → Carried (h ∷ hs) (updateObject (h .own) (h .parent .neighbour) p)
     unfolding along updateObject
     carry {heard = heard} {h = h} j hs i p e g =
         let bs = runOf (h .lent) (h .parent) in
@@ -165,7 +175,8 @@ module _ (Called : Hop → Type 0) (told : (h : Hop) → Called h → ByDefiniti
 
     -- at the end of a chain
     carried : {minhop : ℕ} {begin : List Object} {rank : ℕ} (i : ℕ) → getElem? begin i ≡ some o → valueIn f (o .body) ≤ mostIn f
-        → (hs : List Hop) (last : List Object) (end : ℕ) → Chain Called minhop begin rank hs last end → (p : Object) → getElem? last i ≡ some p → Carried hs p
+        → (hs : List Hop) (last : List Object) (end : ℕ) → Chain Called minhop begin rank hs last end
+        → (p : Object) → getElem? last i ≡ some p → Carried hs p
     carried i at x _ _ _ root p e =
         let s : some o ≡ some p = sym at ∙ e in
         let q : o ≡ p = cc in
@@ -196,21 +207,22 @@ module _ (Called : Hop → Type 0) (told : (h : Hop) → Called h → ByDefiniti
 
   -- ---- the theorem
 
-  counted : (o : Object) (t : o .type ≡ 3) (r : role o ≡ aggregated) (hs : List Hop) (p : Object) → Carried hops o t r hs p → getD (p .body) 1 0 ≡ getD (o .body) 1 0 + length hs
+  counted : (o : Object) (t : o .type ≡ 3) (r : role o ≡ aggregated) (hs : List Hop) (p : Object) → Carried hops o t r hs p
+      → getD (p .body) 1 0 ≡ getD (o .body) 1 0 + length hs
   unfolding along
   counted o t r [] p g = g .value ∙ omega arith
   counted o t r (h ∷ hs) p g =
       let a = only-0 (fieldA o) (rw (kind-at hops o t) at (g .allowedA (omega arith))) in
       grown hops o t r (h ∷ hs) p g .sum a ∙ rw (ones (h ∷ hs))
 
-  same-length : {minhop : ℕ} {begin : List Object} {rank : ℕ} (hs : List Hop) (last : List Object) (end : ℕ) → Chain Called minhop begin rank hs last end
-      → length last ≡ length begin
+  same-length : {minhop : ℕ} {begin : List Object} {rank : ℕ} (hs : List Hop) (last : List Object) (end : ℕ)
+      → Chain Called minhop begin rank hs last end → length last ≡ length begin
   same-length _ _ _ root = refl
   same-length _ _ _ (onward {hs = hs} {heard = heard} {before = before} ch j) =
       rw (sent-is j) (length-map heard _ ∙ same-length hs heard before ch)
 
-  rank-along : {minhop : ℕ} {begin : List Object} {rank : ℕ} (hs : List Hop) (last : List Object) (end : ℕ) → Chain Called minhop begin rank hs last end
-      → end / minhop ≡ rank / minhop + sumOf (map unitsAt hs)
+  rank-along : {minhop : ℕ} {begin : List Object} {rank : ℕ} (hs : List Hop) (last : List Object) (end : ℕ)
+      → Chain Called minhop begin rank hs last end → end / minhop ≡ rank / minhop + sumOf (map unitsAt hs)
   unfolding sumOf
   rank-along _ _ _ root = omega arith
   rank-along _ _ _ (onward {hs = hs} {heard = heard} {before = before} ch j) =
@@ -218,12 +230,10 @@ module _ (Called : Hop → Type 0) (told : (h : Hop) → Called h → ByDefiniti
 
   pub along-path-of : Along Called
   along-path-of minhop bs begin rank hs last end b read ch =
-      let within : (f : Field) (i : ℕ) (o : Object) → getElem? begin i ≡ some o → o .type ≡ typeAt f → role o ≡ aggregated → valueIn f (o .body) ≤ mostIn f
-      = λ f i o at t r. value-within f bs o (kind-at f o t) (aggregates-whole bs begin i o read at r) b (body-bytes begin i o (data-bytes bs begin b (run-objects bs begin read .objects)) at) in
       record {
         objects = same-length hs last end ch;
-        metrics = λ f i o p at e t r. grown f o t r hs p (carried f o t r i at (within f i o at t r) hs last end ch p e);
-        counts = λ i o p at e t r. counted o t r hs p (carried hops o t r i at (within hops i o at t r) hs last end ch p e);
+        metrics = λ f i o p at e t r. grown f o t r hs p (carried f o t r i at (start-within bs begin b read f i o at t r) hs last end ch p e);
+        counts = λ i o p at e t r. counted o t r hs p (carried hops o t r i at (start-within bs begin b read hops i o at t r) hs last end ch p e);
         ranks = rank-along hs last end ch;
       }
 

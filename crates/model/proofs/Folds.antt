@@ -1,5 +1,5 @@
 -- The fold over a chain, by A: the sum, the largest, the smallest.
-use mathlib.Core.Path.{_≡_, refl, sym, _∙_}
+use mathlib.Core.Path.{_≡_, refl}
 use Prim.Native.Nat.{ℕ, zero, suc, _+_, _≤_, min, max}
 use native.Mathlib.Omega.{arith}
 use mathlib.Core.Bool.{Bool, true, false}
@@ -9,7 +9,7 @@ use mathlib.Core.Option.{some, Option·none-ne-some}
 use lib.ListN.{getElem?}
 use lib.Dec.{leb}
 use borrow.Author.Tests.{leb-true, leb-false}
-use Rattle.model.specs.Chain.{together, along, sumOf, Extreme, Folds}
+use Rattle.model.specs.Chain.{together, along, sumOf, Extreme, Largest, Smallest, Folds}
 
 along-sum : (x : ℕ) (vs : List ℕ) → along 0 x vs ≡ x + sumOf vs
 unfolding along sumOf
@@ -18,15 +18,18 @@ along-sum x (v ∷ vs) = let e = along-sum x vs in omega arith
 
 -- of two numbers one is picked, beside which both stand in an order
 module _ (a : ℕ) (Beside : ℕ → ℕ → Type 0) (itself : (n : ℕ) → Beside n n) (through : (k m n : ℕ) → Beside k m → Beside m n → Beside k n)
-    (picks : (x v : ℕ) → (together a x v ≡ x) ⊎ (together a x v ≡ v)) (left : (x v : ℕ) → Beside x (together a x v)) (right : (x v : ℕ) → Beside v (together a x v)) where
+    (picks : (x v : ℕ) → (together a x v ≡ x) ⊎ (together a x v ≡ v))
+    (left : (x v : ℕ) → Beside x (together a x v)) (right : (x v : ℕ) → Beside v (together a x v)) where
   -- where it stands
-  place : (x v n m : ℕ) (vs : List ℕ) (i : ℕ) → getElem? (x ∷ vs) i ≡ some n → (m ≡ n) ⊎ (m ≡ v) → (j : ℕ) × (getElem? (x ∷ v ∷ vs) j ≡ some m)
+  place : (x v n m : ℕ) (vs : List ℕ) (i : ℕ) → getElem? (x ∷ vs) i ≡ some n → (m ≡ n) ⊎ (m ≡ v)
+      → (j : ℕ) × (getElem? (x ∷ v ∷ vs) j ≡ some m)
   place x v n m vs i e (inr q) = (1, rw q)
   place x v n m vs zero e (inl q) = (0, rw q e)
   place x v n m vs (suc i) e (inl q) = (suc (suc i), rw q e)
 
   -- beside it stand the number that is new, and all those that stood beside the one before
-  beside : (x v n : ℕ) (vs : List ℕ) → ((i m : ℕ) → getElem? (x ∷ vs) i ≡ some m → Beside m n) → (i m : ℕ) → getElem? (x ∷ v ∷ vs) i ≡ some m → Beside m (together a n v)
+  beside : (x v n : ℕ) (vs : List ℕ) → ((i m : ℕ) → getElem? (x ∷ vs) i ≡ some m → Beside m n)
+      → (i m : ℕ) → getElem? (x ∷ v ∷ vs) i ≡ some m → Beside m (together a n v)
   beside x v n vs h zero m e = through m n (together a n v) (h 0 m e) (left n v)
   beside x v n vs h (suc zero) m e = let q : v ≡ m = cc in rw (← q) (right n v)
   beside x v n vs h (suc (suc i)) m e = through m n (together a n v) (h (suc i) m e) (left n v)
@@ -58,9 +61,15 @@ smaller-picks x v = go (leb v x) refl
     go true e = let l = leb-true v x e in inr (omega arith)
     go false e = let l = leb-false v x e in inl (omega arith)
 
+largest : (x : ℕ) (vs : List ℕ) → Largest (along 1 x vs) (x ∷ vs)
+largest = extreme 1 (λ m n. m ≤ n) (λ n. omega arith) (λ k m n p q. omega arith) larger-picks (λ x v. omega arith) (λ x v. omega arith)
+
+smallest : (x : ℕ) (vs : List ℕ) → Smallest (along 2 x vs) (x ∷ vs)
+smallest = extreme 2 (λ m n. n ≤ m) (λ n. omega arith) (λ k m n p q. omega arith) smaller-picks (λ x v. omega arith) (λ x v. omega arith)
+
 pub folds : Folds
 folds a x vs = record {
   sum = λ e. rw e (along-sum x vs);
-  largest = λ e. rw e (extreme 1 (λ m n. m ≤ n) (λ n. omega arith) (λ k m n p q. omega arith) larger-picks (λ x v. omega arith) (λ x v. omega arith) x vs);
-  smallest = λ e. rw e (extreme 2 (λ m n. n ≤ m) (λ n. omega arith) (λ k m n p q. omega arith) smaller-picks (λ x v. omega arith) (λ x v. omega arith) x vs);
+  largest = λ e. rw e (largest x vs);
+  smallest = λ e. rw e (smallest x vs);
 }

@@ -10,7 +10,7 @@ use borrow.Author.Tests.{eqb-true, eqb-false, ltb-true, ltb-false}
 use Rattle.model.specs.declared.Quantity.the-variants.{Known, Unknown}
 use Rattle.model.specs.declared.Own.{Own}
 use Rattle.model.specs.declared.Neighbour.{Neighbour}
-use Rattle.model.specs.Number.{isSet, knownIf, isUnknown, anyOf, number}
+use Rattle.model.specs.Number.{isSet, knownIf, isUnknown, anyOf}
 use Rattle.model.specs.Object.{Object, fieldA, Kind, node, scalar, nsa, ne, hp, Scalar, throughput, latency, etx, kindOf, kind, aggregated, role}
 use Rattle.model.specs.Table.{row, allowed}
 use Rattle.model.specs.Constraint.{linkValue}
@@ -112,7 +112,8 @@ local-within (link throughput) h e l = l .throughput
 local-within (link latency) h e l = l .latency
 local-within (link etx) h e l = l .etx
 
-pub value-within : (f : Field) (bs : List ℕ) (o : Object) → kind o ≡ kindAt f → Whole bs o → Bytes bs → Bytes (o .body) → valueIn f (o .body) ≤ mostIn f
+pub value-within : (f : Field) (bs : List ℕ) (o : Object) → kind o ≡ kindAt f → Whole bs o → Bytes bs → Bytes (o .body)
+    → valueIn f (o .body) ≤ mostIn f
 value-within aggregator bs o k w b h = omega arith
 value-within overload bs o k w b h = omega arith
 value-within energy bs o k w b h = byte-at (o .body) 1 h
@@ -147,7 +148,9 @@ module _ (h : Hop) (bs : List ℕ) (o : Object) (r : role o ≡ aggregated) (w :
 
   -- A is one that the type's row allows
   pub allows : allowed (kind o) (fieldA o) ≡ true
-  allows = let e : not (allowed (kind o) (fieldA o)) ≡ false = rw r at (none-at (λ t. t o) (leafTests own c) 1 notAllowed free refl) in go (allowed (kind o) (fieldA o)) e
+  allows =
+      let e : not (allowed (kind o) (fieldA o)) ≡ false = rw r at (none-at (λ t. t o) (leafTests own c) 1 notAllowed free refl) in
+      go (allowed (kind o) (fieldA o)) e
     where
       go : (b : Bool) → not b ≡ false → b ≡ true
       go true e = refl
@@ -155,7 +158,9 @@ module _ (h : Hop) (bs : List ℕ) (o : Object) (r : role o ≡ aggregated) (w :
 
   -- the local value is known
   has-value : isUnknown (localValue own c (kind o)) ≡ false
-  has-value = let e = rw r at (none-at (λ t. t o) (leafTests own c) 2 (noValue own c) free refl) in neither (isUnknown (localValue own c (kind o))) (noEnergy (kind o) (o .body)) e .0
+  has-value =
+      let e = rw r at (none-at (λ t. t o) (leafTests own c) 2 (noValue own c) free refl) in
+      neither (isUnknown (localValue own c (kind o))) (noEnergy (kind o) (o .body)) e .0
 
   pub known : (f : Field) → kind o ≡ kindAt f → knows f h ≡ true
   unfolding localValue linkValue
@@ -187,7 +192,8 @@ module _ (h : Hop) (bs : List ℕ) (o : Object) (r : role o ≡ aggregated) (w :
   combined hops t x y = byte1-sent own c o hp (kind-at hops o t) r (two (omega arith) (omega arith))
   combined (link s) t x y =
       let k = kind-at (link s) o t in
-      sent own c o s (localAt (link s) h) k r (link-known s (known (link s) k)) (w .scalars s k) (fieldA o) refl (combine-within (fieldA o) (mostOf s) _ _ x y)
+      let l = link-known s (known (link s) k) in
+      sent own c o s (localAt (link s) h) k r l (w .scalars s k) (fieldA o) refl (combine-within (fieldA o) (mostOf s) _ _ x y)
 
   -- a sum stops nowhere but for ETX; no other field than the count and the links' is added up
   adds : (f : Field) → o .type ≡ typeAt f → valueIn f (o .body) ≤ mostIn f → localAt f h ≤ mostIn f → fieldA o ≡ 0
@@ -203,7 +209,8 @@ module _ (h : Hop) (bs : List ℕ) (o : Object) (r : role o ≡ aggregated) (w :
   adds (link etx) t x y a = refl
 
   -- combined is together, stopped
-  whole : (f : Field) (a x v : ℕ) → x ≤ mostIn f → v ≤ mostIn f → (a ≡ 0 → min (mostIn f) (x + v) ≡ stopped f (x + v)) → combine a (mostIn f) x v ≡ stopped f (together a x v)
+  whole : (f : Field) (a x v : ℕ) → x ≤ mostIn f → v ≤ mostIn f → (a ≡ 0 → min (mostIn f) (x + v) ≡ stopped f (x + v))
+      → combine a (mostIn f) x v ≡ stopped f (together a x v)
   whole f zero x v l m s = s refl
   whole f (suc zero) x v l m s = sym (stopped-within f (max x v) (omega arith))
   whole f (suc (suc a)) x v l m s = sym (stopped-within f (min x v) (omega arith))

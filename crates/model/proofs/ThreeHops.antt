@@ -1,7 +1,7 @@
 -- The chain of three nodes, computed.
 use mathlib.Core.Path.{refl}
 use native.Mathlib.Omega.{arith}
-use Rattle.model.specs.Chain.{Joins, ByDefinition, Chain, root, onward}
+use Rattle.model.specs.Chain.{Joins, ByDefinition, root, onward}
 use Rattle.model.specs.ThreeHops.{metrics, office, pumpHouse, relay, sensor, ThreeHops}
 use Rattle.model.proofs.Computed.{model}
 

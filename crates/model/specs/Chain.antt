@@ -32,7 +32,7 @@ pub record Hop : Type 0 where
 abbrev pub ByDefinition : Hop → Type 0
 ByDefinition h = h .result ≡ call (h .own) (h .candidates) (h .lent) (h .out)
 
--- a node hears these objects from a node of this rank, chooses it among any candidates, and passes those objects on at its own rank, `next`
+-- a node hears objects from a node of a rank, chooses it among any candidates, and passes objects on at its own rank, the next
 pub record Joins (Called : Hop → Type 0) (minhop : ℕ) (heard : List Object) (rank : ℕ) (h : Hop) (sent : List Object) (next : ℕ) : Type 0 where
   pub called : Called h
   -- numbers are within their types
@@ -174,7 +174,8 @@ pub record Grown (f : Field) (hs : List Hop) (o p : Object) : Type 0 where
 pub record AlongPath (minhop : ℕ) (start : List Object) (rank : ℕ) (hs : List Hop) (last : List Object) (end : ℕ) : Type 0 where
   -- every object stands where it stood
   pub objects : length last ≡ length start
-  pub metrics : (f : Field) (i : ℕ) (o p : Object) → getElem? start i ≡ some o → getElem? last i ≡ some p → o .type ≡ typeAt f → role o ≡ aggregated → Grown f hs o p
+  pub metrics : (f : Field) (i : ℕ) (o p : Object) → getElem? start i ≡ some o → getElem? last i ≡ some p → o .type ≡ typeAt f → role o ≡ aggregated
+      → Grown f hs o p
   -- HP, whatever its A: the starting count plus the number of hops
   pub counts : (i : ℕ) (o p : Object) → getElem? start i ≡ some o → getElem? last i ≡ some p → o .type ≡ 3 → role o ≡ aggregated
       → getD (p .body) 1 0 ≡ getD (o .body) 1 0 + length hs
