@@ -4,6 +4,7 @@ use Prim.Native.Nat.{ℕ}
 use mathlib.Core.List.{List}
 use Rattle.model.specs.declared.Candidate.{Candidate}
 use Rattle.model.specs.Chain.{Hop, Along, Rises}
+use Rattle.model.specs.ThreeHops.{Three}
 use Rattle.choice.specs.Given.{given}
 use Rattle.choice.specs.Demand3.{Returned}
 
@@ -20,3 +21,7 @@ AlongPathOfCall = Along Called
 
 abbrev pub RankRisesOfCall : Type 0
 RankRisesOfCall = Rises Called
+
+-- a chain of three nodes by such calls
+abbrev pub ThreeHopsOfCall : Type 0
+ThreeHopsOfCall = Three Called

@@ -1,11 +1,11 @@
 -- Of bytes, bytes are passed on.
-use mathlib.Core.Path.{_≡_, refl, sym, subst, _∙_}
+use mathlib.Core.Path.{_≡_, refl, sym, _∙_}
 use Prim.Native.Nat.{ℕ, zero, suc, _+_, _*_, _/_, _%_, _^_, _≤_}
 use native.Mathlib.Omega.{arith}
 use mathlib.Core.Bool.{Bool, true, false, cond, _&&_}
-use mathlib.Core.List.{List, [], _∷_, _++_, map, append-nil}
+use mathlib.Core.List.{List, [], _∷_, _++_, map}
 use mathlib.Core.Option.{some, Option·none-ne-some}
-use lib.ListN.{length, getD, take, drop, getElem?, take-append-drop, length-append}
+use lib.ListN.{length, getD, take, drop, getElem?, take-append-drop}
 use lib.Dec.{ltb, eqb}
 use borrow.Author.Tests.{le-ltb, ltb-true, ltb-false}
 use Rattle.model.specs.declared.Quantity.{Quantity}
@@ -13,7 +13,7 @@ use Rattle.model.specs.declared.Quantity.the-variants.{Known, Unknown}
 use Rattle.model.specs.declared.Own.{Own}
 use Rattle.model.specs.declared.Neighbour.{Neighbour}
 use Rattle.model.specs.Number.{isSet, anyOf, number, bigEndian}
-use Rattle.model.specs.Object.{Object, fieldA, join, container, Kind, unknown, lql, colour, node, scalar, Node, nsa, ne, hp, throughput, latency, etx, kind, Role, constraint, recorded, aggregated, role}
+use Rattle.model.specs.Object.{Object, fieldA, join, Kind, unknown, lql, colour, node, scalar, Node, nsa, ne, hp, throughput, latency, etx, kind, Role, constraint, recorded, aggregated, role}
 use Rattle.model.specs.Cut.{keepIf}
 use Rattle.model.specs.Run.{RplOption, pad1, option, joinOptions, isContainer, containers, runObjects, concat}
 use Rattle.model.specs.Pack.{isOverlong, unpackable, packed}

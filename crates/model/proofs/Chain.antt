@@ -6,7 +6,7 @@ use native.Mathlib.Omega.{arith}
 use mathlib.Core.Bool.{true, false, not}
 use mathlib.Core.List.{List, [], _∷_, map}
 use mathlib.Core.Option.{some}
-use lib.ListN.{length, getD, getElem?, length-map}
+use lib.ListN.{length, getD, getElem?}
 use Rattle.model.specs.declared.Own.{Own}
 use Rattle.model.specs.declared.Neighbour.{Neighbour}
 use Rattle.model.specs.declared.Candidate.{Candidate}
@@ -25,7 +25,6 @@ use Rattle.model.specs.Selection.{PreferredParent}
 use Rattle.model.specs.RoundTrip.{Bytes}
 use Rattle.model.specs.Untouched.{PassedOn, passedOn}
 use Rattle.model.specs.Chain.{Hop, ByDefinition, Joins, Chain, root, onward, Field, hops, typeAt, valueIn, localAt, knows, stopped, together, along, sumOf, unitsAt, Grown, Along, Rises, AlongPathHolds, RankRises}
-use Rattle.model.proofs.BoolLaws.{neither}
 use Rattle.model.proofs.ListLaws.{map-at, none-at}
 use Rattle.model.proofs.Readings.{same-objects}
 use Rattle.model.proofs.RunLaws.{run-objects}
@@ -34,8 +33,8 @@ use Rattle.model.proofs.UpdateLaws.{role-update}
 use Rattle.model.proofs.PlaceLaws.{headers}
 use Rattle.model.proofs.CallLaws.{unrefused}
 use Rattle.model.proofs.Selection.{selection}
-use Rattle.model.proofs.Exact.{leaves}
-use Rattle.model.proofs.ReadBack.{reads-back, aggregates-whole}
+use Rattle.model.proofs.ReadBack.{aggregates-whole}
+use Rattle.model.proofs.SumLaws.{objects-sent, leaf-free}
 use Rattle.model.proofs.HopLaws.{kind-at, mostIn, up-to-2, only-0, stopped-within, stops-once, local-within, value-within, allows, known, passed}
 use Rattle.model.proofs.Folds.{folds}
 
@@ -54,16 +53,20 @@ module _ (own : Own) (cs : List Candidate) (lent out : List ℕ) (p : PassedOn (
 
   -- it passes the objects on, updated
   updates : (ns : List Object) → readRun (passedOn (call own cs lent out)) ≡ wellFormed ns → ns ≡ update own (parent .neighbour) os
-  updates ns e = same-objects ns _ (sym e ∙ reads-back own cs lent out p preferred ∙ rw (is-parent, are-objects))
+  updates ns e = objects-sent own cs lent out p preferred ns e ∙ rw (is-parent, are-objects)
 
   -- no object gives a leaf answer
   free : someHas (leafTests own (parent .neighbour)) os ≡ false
-  free =
-      let none = leaves own cs lent out (p .unrefused) preferred .no-leaf .0 (p .noLeaf) in
-      rw (is-parent, are-objects) at (neither (someHas (leafTests own (preferred .candidate .neighbour)) (preferred .objects)) _ none .0)
+  free = rw (is-parent, are-objects) at (leaf-free own cs lent out p preferred)
 
   takes : call own cs lent out .answer .rank .0 ≡ resulting own (parent .neighbour)
   takes = preferred .rank ∙ rw is-parent
+
+-- an update keeps types
+types-kept : (own : Own) (c : Neighbour) (os : List Object) → map (λ o. o .type) (update own c os) ≡ map (λ o. o .type) os
+unfolding updateObject
+types-kept own c [] = refl
+types-kept own c (o ∷ os) = ap (λ ts. o .type ∷ ts) (types-kept own c os)
 
 -- ---- numbers
 
@@ -215,11 +218,11 @@ module _ (Called : Hop → Type 0) (told : (h : Hop) → Called h → ByDefiniti
       let a = only-0 (fieldA o) (rw (kind-at hops o t) at (g .allowedA (omega arith))) in
       grown hops o t r (h ∷ hs) p g .sum a ∙ rw (ones (h ∷ hs))
 
-  same-length : {minhop : ℕ} {begin : List Object} {rank : ℕ} (hs : List Hop) (last : List Object) (end : ℕ)
-      → Chain Called minhop begin rank hs last end → length last ≡ length begin
-  same-length _ _ _ root = refl
-  same-length _ _ _ (onward {hs = hs} {heard = heard} {before = before} ch j) =
-      rw (sent-is j) (length-map heard _ ∙ same-length hs heard before ch)
+  same-types : {minhop : ℕ} {begin : List Object} {rank : ℕ} (hs : List Hop) (last : List Object) (end : ℕ)
+      → Chain Called minhop begin rank hs last end → map (λ o. o .type) last ≡ map (λ o. o .type) begin
+  same-types _ _ _ root = refl
+  same-types _ _ _ (onward {hs = hs} {heard = heard} {before = before} ch j) =
+      rw (sent-is j) (types-kept _ _ heard ∙ same-types hs heard before ch)
 
   rank-along : {minhop : ℕ} {begin : List Object} {rank : ℕ} (hs : List Hop) (last : List Object) (end : ℕ)
       → Chain Called minhop begin rank hs last end → end / minhop ≡ rank / minhop + sumOf (map unitsAt hs)
@@ -231,7 +234,7 @@ module _ (Called : Hop → Type 0) (told : (h : Hop) → Called h → ByDefiniti
   pub along-path-of : Along Called
   along-path-of minhop bs begin rank hs last end b read ch =
       record {
-        objects = same-length hs last end ch;
+        objects = same-types hs last end ch;
         metrics = λ f i o p at e t r. grown f o t r hs p (carried f o t r i at (start-within bs begin b read f i o at t r) hs last end ch p e);
         counts = λ i o p at e t r. counted o t r hs p (carried hops o t r i at (start-within bs begin b read hops i o at t r) hs last end ch p e);
         ranks = rank-along hs last end ch;

@@ -4,7 +4,7 @@ use Prim.Native.Nat.{ℕ, zero, suc, _+_, _≤_, min, max}
 use native.Mathlib.Omega.{arith}
 use mathlib.Core.Bool.{Bool, true, false}
 use mathlib.Core.List.{List, [], _∷_}
-use mathlib.Core.Logic.{_⊎_, inl, inr}
+use mathlib.Core.Logic.{_⊎_, inl, inr, ⊎-elim}
 use mathlib.Core.Option.{some, Option·none-ne-some}
 use lib.ListN.{getElem?}
 use lib.Dec.{leb}
@@ -47,19 +47,18 @@ module _ (a : ℕ) (Beside : ℕ → ℕ → Type 0) (itself : (n : ℕ) → Bes
       let (j, e) = place x v (along a x vs) (together a (along a x vs) v) vs (h .index) (h .among) (picks (along a x vs) v) in
       record { index = j; among = e; others = beside x v (along a x vs) vs (h .others) }
 
-larger-picks : (x v : ℕ) → (max x v ≡ x) ⊎ (max x v ≡ v)
-larger-picks x v = go (leb v x) refl
+either : (x v : ℕ) → (x ≤ v) ⊎ (v ≤ x)
+either x v = go (leb x v) refl
   where
-    go : (b : Bool) → leb v x ≡ b → (max x v ≡ x) ⊎ (max x v ≡ v)
-    go true e = let l = leb-true v x e in inl (omega arith)
-    go false e = let l = leb-false v x e in inr (omega arith)
+    go : (b : Bool) → leb x v ≡ b → (x ≤ v) ⊎ (v ≤ x)
+    go true e = inl (leb-true x v e)
+    go false e = let l = leb-false x v e in inr (omega arith)
+
+larger-picks : (x v : ℕ) → (max x v ≡ x) ⊎ (max x v ≡ v)
+larger-picks x v = ⊎-elim (λ l. inr (omega arith)) (λ l. inl (omega arith)) (either x v)
 
 smaller-picks : (x v : ℕ) → (min x v ≡ x) ⊎ (min x v ≡ v)
-smaller-picks x v = go (leb v x) refl
-  where
-    go : (b : Bool) → leb v x ≡ b → (min x v ≡ x) ⊎ (min x v ≡ v)
-    go true e = let l = leb-true v x e in inr (omega arith)
-    go false e = let l = leb-false v x e in inl (omega arith)
+smaller-picks x v = ⊎-elim (λ l. inl (omega arith)) (λ l. inr (omega arith)) (either x v)
 
 largest : (x : ℕ) (vs : List ℕ) → Largest (along 1 x vs) (x ∷ vs)
 largest = extreme 1 (λ m n. m ≤ n) (λ n. omega arith) (λ k m n p q. omega arith) larger-picks (λ x v. omega arith) (λ x v. omega arith)

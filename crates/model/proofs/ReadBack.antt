@@ -102,7 +102,8 @@ flags-sent own c o k r h =
     let v = own .flags in
     let p : v % 4 / 2 % 2 ≡ v / 2 % 2 = omega arith in
     let q : v % 4 % 2 ≡ v % 2 = omega arith in
-    let e : getD (updateObject own c o .body) 1 0 ≡ combine a 1 (y / 2 % 2) (v / 2 % 2) * 2 + combine a 1 (y % 2) (v % 2) = rw (p, q) at (byte1-sent own c o nsa k r h) in
+    let e : getD (updateObject own c o .body) 1 0 ≡ combine a 1 (y / 2 % 2) (v / 2 % 2) * 2 + combine a 1 (y % 2) (v % 2)
+    = rw (p, q) at (byte1-sent own c o nsa k r h) in
     let m = flag-within a (y / 2) (v / 2) in
     let n = flag-within a y v in
     record { aggregator = omega (arith, e, m, n); overload = omega (arith, e, m, n); others = omega (arith, e, m, n) }
@@ -114,8 +115,8 @@ picks-flags own c o t r h =
     record { aggregator = picks (fieldA o) 1 _ _ _ (s .aggregator); overload = picks (fieldA o) 1 _ _ _ (s .overload); others = s .others }
 
 -- E_E combined with the own energy, where that is known
-pub energy-sent : (own : Own) (c : Neighbour) (o : Object) → kind o ≡ node ne → role o ≡ aggregated → isSet (own .flags / 4 % 2) ≡ true → 2 ≤ length (o .body)
-    → getD (updateObject own c o .body) 1 0 ≡ combine (fieldA o) 255 (getD (o .body) 1 0) (own .energy)
+pub energy-sent : (own : Own) (c : Neighbour) (o : Object) → kind o ≡ node ne → role o ≡ aggregated → isSet (own .flags / 4 % 2) ≡ true
+    → 2 ≤ length (o .body) → getD (updateObject own c o .body) 1 0 ≡ combine (fieldA o) 255 (getD (o .body) 1 0) (own .energy)
 unfolding localValue
 energy-sent own c o k r l h = byte1-sent own c o ne k r h ∙ rw l
 

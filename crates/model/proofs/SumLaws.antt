@@ -2,6 +2,7 @@
 use mathlib.Core.Path.{_≡_, refl, sym, _∙_}
 use Prim.Native.Nat.{ℕ, _+_}
 use mathlib.Core.Bool.{true, false, true≢false}
+use mathlib.Core.List.{List}
 use mathlib.Core.Option.{some}
 use lib.ListN.{length}
 use borrow.Author.Tests.{eq-eqb, ltb-false}
@@ -9,12 +10,18 @@ use Rattle.model.specs.declared.Quantity.{Quantity}
 use Rattle.model.specs.declared.Quantity.the-variants.{Known, Unknown}
 use Rattle.model.specs.declared.Own.{Own}
 use Rattle.model.specs.declared.Neighbour.{Neighbour}
+use Rattle.model.specs.declared.Candidate.{Candidate}
 use Rattle.model.specs.Number.{knownIf, anyOf, number}
 use Rattle.model.specs.Object.{Object, fieldA, kindOf, Scalar, throughput, latency, scalar, kind, aggregated, role}
+use Rattle.model.specs.Reading.{wellFormed}
+use Rattle.model.specs.Run.{readRun}
 use Rattle.model.specs.Constraint.{linkValue}
 use Rattle.model.specs.Update.{localValue, noValue, mustFit, overflows, widthOf, mostOf, updateObject, update}
 use Rattle.model.specs.Verdict.{runOf}
+use Rattle.model.specs.Choice.{call}
 use Rattle.model.specs.Conditions.{someHas}
+use Rattle.model.specs.Selection.{PreferredParent}
+use Rattle.model.specs.Untouched.{PassedOn, passedOn}
 use Rattle.model.specs.Exact.{leafTests}
 use Rattle.model.specs.ReadBack.{SummedWhole, SumsWhole}
 use Rattle.model.proofs.BoolLaws.{neither}
@@ -58,13 +65,25 @@ module _ (own : Own) (c : Neighbour) (o : Object) (noLeaf : anyOf (λ t. t o) (l
 
 -- ---- in the container that a call passes on
 
+module _ (own : Own) (cs : List Candidate) (lent out : List ℕ) (p : PassedOn (call own cs lent out))
+    (x : PreferredParent own cs lent (call own cs lent out .answer)) where
+  -- what is read there is the parent's objects, updated
+  pub objects-sent : (ns : List Object) → readRun (passedOn (call own cs lent out)) ≡ wellFormed ns
+      → ns ≡ update own (x .candidate .neighbour) (x .objects)
+  objects-sent ns e = same-objects ns _ (sym e ∙ reads-back own cs lent out p x)
+
+  -- none of the parent's objects gives a leaf answer
+  pub leaf-free : someHas (leafTests own (x .candidate .neighbour)) (x .objects) ≡ false
+  leaf-free =
+      let none = leaves own cs lent out (p .unrefused) x .no-leaf .0 (p .noLeaf) in
+      neither (someHas (leafTests own (x .candidate .neighbour)) (x .objects)) _ none .0
+
 pub sums-whole : SumsWhole
 sums-whole own cs lent out p x ns e i o n s t r a =
     let c = x .candidate .neighbour in
-    let none = leaves own cs lent out (p .unrefused) x .no-leaf .0 (p .noLeaf) in
-    let free = none-at (λ o. anyOf (λ t. t o) (leafTests own c)) (x .objects) i o (neither (someHas (leafTests own c) (x .objects)) _ none .0) s in
+    let free = none-at (λ o. anyOf (λ t. t o) (leafTests own c)) (x .objects) i o (leaf-free own cs lent out p x) s in
     let width = aggregates-whole (runOf lent (x .candidate)) (x .objects) i o (x .read) s r .scalars in
-    let is : ns ≡ update own c (x .objects) = same-objects ns _ (sym e ∙ reads-back own cs lent out p x) in
+    let is = objects-sent own cs lent out p x ns e in
     let at-i : some n ≡ some (updateObject own c o) = sym t ∙ rw is (at-map (updateObject own c) (x .objects) i o s) in
     let same : n ≡ updateObject own c o = cc in
     rw same (summed own c o free r a width)

@@ -172,8 +172,8 @@ pub record Grown (f : Field) (hs : List Hop) (o p : Object) : Type 0 where
 
 -- what holds at the end of a chain
 pub record AlongPath (minhop : ℕ) (start : List Object) (rank : ℕ) (hs : List Hop) (last : List Object) (end : ℕ) : Type 0 where
-  -- every object stands where it stood
-  pub objects : length last ≡ length start
+  -- every object stands where it stood, by its type
+  pub objects : map (λ o. o .type) last ≡ map (λ o. o .type) start
   pub metrics : (f : Field) (i : ℕ) (o p : Object) → getElem? start i ≡ some o → getElem? last i ≡ some p → o .type ≡ typeAt f → role o ≡ aggregated
       → Grown f hs o p
   -- HP, whatever its A: the starting count plus the number of hops

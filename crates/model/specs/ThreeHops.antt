@@ -1,11 +1,15 @@
 -- A chain of three nodes, computed, so that what the statements on chains ask is seen to be met: an office, which is the root, a pump
 -- house, a relay and a sensor. README.md has the same numbers.
+use mathlib.Core.Path.{_≡_}
 use Prim.Native.Nat.{ℕ}
 use mathlib.Core.List.{List, [], _∷_, _++_}
 use lib.ListN.{length, take, drop}
 use Rattle.model.specs.declared.Candidate.{Candidate}
 use Rattle.model.specs.Number.{bigEndian}
 use Rattle.model.specs.Object.{Object, object, container}
+use Rattle.model.specs.Reading.{wellFormed}
+use Rattle.model.specs.Run.{readRun}
+use Rattle.model.specs.RoundTrip.{Bytes}
 use Rattle.model.specs.Samples.{ownNode, neighbourWith, output, candidate, Calling, calling, resultOf, passedBy}
 use Rattle.model.specs.Chain.{Hop, ByDefinition, Chain}
 
@@ -20,9 +24,9 @@ metrics n x l t e f =
     ∷ object 1 0x00 0x10 (0x00 ∷ f ∷ [])
     ∷ []
 
--- what the office sends
+-- what the office sends: a count of 1, as the first node must (RFC 6551, section 3.3), and a latency of its own
 abbrev pub office : List Object
-office = metrics 0 0 0 1000000 100 0
+office = metrics 1 0 1500 1000000 100 0
 
 -- in two containers, with padding before each
 abbrev pub officeRun : List ℕ
@@ -65,7 +69,17 @@ heardRelay = candidate (neighbourWith 2048 2 2 1 1 0x38 0 3 256 20000 62500) 0 (
 abbrev pub sensor : Hop
 sensor = hopOf (calling (ownNode 2 0x04 80) (heardRelay ∷ []) (passedBy relayCall)) heardRelay
 
--- three hops; ETX 128 + 192 + 256; 12,000 + 8,500 + 20,000 microseconds; the smallest throughput and energy; somebody is overloaded;
--- rank 256 and 3 + 4 + 5 units of 256
+-- a count of 1 and three hops; ETX 128 + 192 + 256; 1,500 + 12,000 + 8,500 + 20,000 microseconds; the smallest throughput and energy;
+-- somebody is overloaded
+abbrev pub sent : List Object
+sent = metrics 4 576 42000 31250 35 1
+
+-- all that is asked of a chain; the rank is 256 and 3 + 4 + 5 units of 256
+pub record Three (Called : Hop → Type 0) : Type 0 where
+  pub bytes : Bytes officeRun
+  pub read : readRun officeRun ≡ wellFormed office
+  pub chain : Chain Called 256 office 256 (sensor ∷ relay ∷ pumpHouse ∷ []) sent 3328
+
+-- of the call by its definition
 abbrev pub ThreeHops : Type 0
-ThreeHops = Chain ByDefinition 256 office 256 (sensor ∷ relay ∷ pumpHouse ∷ []) (metrics 3 576 40500 31250 35 1) 3328
+ThreeHops = Three ByDefinition

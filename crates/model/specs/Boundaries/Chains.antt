@@ -6,7 +6,7 @@ use lib.ListN.{getD}
 use Rattle.model.specs.Object.{object, throughput, latency, etx}
 use Rattle.model.specs.Samples.{Example, _gives_, ownNode, linkOf, candidate, calling}
 use Rattle.model.specs.Chain.{Hop, Field, aggregator, overload, energy, hops, link, valueIn, localAt, knows, stopped, along}
-use Rattle.model.specs.ThreeHops.{metrics, office, pumpHouse, relay, sensor, hopOf}
+use Rattle.model.specs.ThreeHops.{office, pumpHouse, relay, sensor, sent, hopOf}
 
 -- ---- the chain of three nodes
 
@@ -22,14 +22,14 @@ at f i = record { field = f; index = i }
 abbrev pub valuesOf : At → List ℕ
 valuesOf x =
     valueIn (x .field) (getD office (x .index) (object 0 0 0 []) .body)
-    ∷ valueIn (x .field) (getD (metrics 3 576 40500 31250 35 1) (x .index) (object 0 0 0 []) .body)
+    ∷ valueIn (x .field) (getD sent (x .index) (object 0 0 0 []) .body)
     ∷ map (localAt (x .field)) (sensor ∷ relay ∷ pumpHouse ∷ [])
 
 abbrev pub fields : List (Example At (List ℕ))
 fields =
-    at hops 0 gives (0 ∷ 3 ∷ 1 ∷ 1 ∷ 1 ∷ [])
+    at hops 0 gives (1 ∷ 4 ∷ 1 ∷ 1 ∷ 1 ∷ [])
     ∷ at (link etx) 1 gives (0 ∷ 576 ∷ 256 ∷ 192 ∷ 128 ∷ [])
-    ∷ at (link latency) 2 gives (0 ∷ 40500 ∷ 20000 ∷ 8500 ∷ 12000 ∷ [])
+    ∷ at (link latency) 2 gives (1500 ∷ 42000 ∷ 20000 ∷ 8500 ∷ 12000 ∷ [])
     ∷ at (link throughput) 3 gives (1000000 ∷ 31250 ∷ 62500 ∷ 31250 ∷ 250000 ∷ [])
     ∷ at energy 4 gives (100 ∷ 35 ∷ 80 ∷ 35 ∷ 100 ∷ [])
     ∷ at aggregator 5 gives (0 ∷ 0 ∷ 0 ∷ 0 ∷ 0 ∷ [])
