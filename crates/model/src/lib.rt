@@ -1,16 +1,18 @@
 // The plain data that every crate shares; crates/model/specs says what is true of it.
 
+#![tactic(auto)]
+
 // A rank (RFC 6550): 65535 is the infinite rank, by which a node says that it has no route.
 #[repr(C)]
-#[derive(Drop)]
+#[derive(Clone, Copy)]
 pub struct Rank(pub u16);
 
 // A number of rank units: one unit is one MinHopRankIncrease.
-#[derive(Drop)]
+#[derive(Clone, Copy)]
 pub struct Units(pub u32);
 
 // A number that is known, or is not.
-#[derive(Drop)]
+#[derive(Clone, Copy)]
 pub enum Quantity {
     Known(u32),
     Unknown,
@@ -18,7 +20,7 @@ pub enum Quantity {
 
 // The node's own numbers. Flags: 0x01 overloaded, 0x02 aggregator, 0x04 energy is known, 0x08 lowest is given, 0x10 current is given.
 #[repr(C)]
-#[derive(Drop)]
+#[derive(Clone, Copy)]
 pub struct Own {
     // MinHopRankIncrease
     pub minhop: u16,
@@ -38,7 +40,7 @@ pub struct Own {
 // What is known of a neighbour and the link to it. Flags: 0x01 overloaded, 0x02 aggregator, 0x04 energy is known,
 // 0x08 etx is known, 0x10 latency is known, 0x20 throughput is known, 0x40 its DODAG is grounded.
 #[repr(C)]
-#[derive(Drop)]
+#[derive(Clone, Copy)]
 pub struct Neighbour {
     // the rank it advertised
     pub rank: Rank,
@@ -65,7 +67,7 @@ pub struct Neighbour {
 }
 
 // What an unbarred candidate is compared by, the lower the better.
-#[derive(Drop)]
+#[derive(Clone, Copy)]
 pub struct Offer {
     // what edition 2 compares before the rank, as digits: the interface's order times 16, 8 where its DODAG is not grounded, and how far
     // its root's preference is below 7; in edition 1 it is 0
@@ -76,7 +78,7 @@ pub struct Offer {
 
 // A candidate: a neighbour, and where its run of options stands in the lent bytes.
 #[repr(C)]
-#[derive(Drop)]
+#[derive(Clone, Copy)]
 pub struct Candidate {
     pub neighbour: Neighbour,
     pub start: usize,
@@ -86,14 +88,14 @@ pub struct Candidate {
 
 // The candidates of a call as C passes them; those from the call's count on are ignored.
 #[repr(C)]
-#[derive(Drop)]
+#[derive(Clone, Copy)]
 pub struct Candidates {
     pub at: [Candidate; 16],
 }
 
 // What a container tells the tests of its own constraints: the count of its HP metric; the latency and the ETX that it received, where a
 // metric adds them up along the path, else 0.
-#[derive(Drop)]
+#[derive(Clone, Copy)]
 pub struct Summary {
     pub hops: Quantity,
     pub latency: u32,
@@ -101,14 +103,14 @@ pub struct Summary {
 }
 
 // Document 01's verdict: unbarred with what it is compared by, or barred by a number, at the object of index `place`; 65535 for none.
-#[derive(Drop)]
+#[derive(Clone, Copy)]
 pub enum Verdict {
     Unbarred(Offer),
     Barred { number: u8, place: u16 },
 }
 
 // The preferred parent, where there is one.
-#[derive(Drop)]
+#[derive(Clone, Copy)]
 pub enum Choice {
     Nobody,
     Parent { position: u8, offer: Offer },
@@ -116,7 +118,7 @@ pub enum Choice {
 
 // The answer of a call. No parent is 255, no rank is 65535, no object's place is 65535.
 #[repr(C)]
-#[derive(Drop)]
+#[derive(Clone, Copy)]
 pub struct Answer {
     pub refusal: u8,
     pub parent: u8,
