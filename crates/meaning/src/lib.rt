@@ -1,4 +1,6 @@
 // What each number that a caller can receive means, in words.
+#![tactic(auto)]
+
 ghost use Rattle.std.specs.Prelude.{◌≡◌, ◌≤◌, length};
 ghost use Rattle.meaning.specs.Meaning.{told, told_in};
 ghost use Rattle.meaning.specs.Table.{words_before};

@@ -8,7 +8,7 @@ const MOST: u64 = 18446744073709551615;
 const TENTH: u64 = 1844674407370955161;
 
 // What a word spells in decimal.
-#[derive(Drop)]
+#[derive(Clone, Copy)]
 pub enum Decimal {
     Value(u64),
     TooLarge,
@@ -16,7 +16,7 @@ pub enum Decimal {
 }
 
 // What two bytes spell in hexadecimal.
-#[derive(Drop)]
+#[derive(Clone, Copy)]
 pub enum HexByte {
     Byte(u8),
     NotHex,

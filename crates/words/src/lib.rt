@@ -1,4 +1,6 @@
 // Reading a line of text: where its words stand, and the numbers and bytes that they spell.
+#![tactic(auto)]
+
 mod digits;
 mod hex;
 mod places;

@@ -1,4 +1,3 @@
--- `start_of` meets its contract: each entry of the code's table is where the words for its number begin, by computing.
 use Prim.Native.Nat.{ℕ, ◌≤◌, ◌/◌, ◌%◌}
 use mathlib.Core.Path.{◌≡◌, refl}
 use mathlib.Core.List.{List, [], ◌∷◌}
@@ -11,8 +10,7 @@ use Rattle.meaning.specs.Meaning.{table, words_in, codes_from, meaning}
 use Rattle.meaning.specs.Table.{words_before}
 use Rattle.meaning.proofs.WordLaws.{at_each}
 use borrow.Author.Rules.{rules}
-use Rattle.meaning.proofs.start_of.Statement.{statement}
-use Rattle.meaning.proofs.start_of.Tie as tie
+use Rattle.meaning.proofs.start_of.Goals as goal
 
 -- the rows of the code's table
 abbrev starts : List (List ℕ)
@@ -40,24 +38,5 @@ starts-few : (n : ℕ) → n ≤ 37 → start_of n ≤ 1509
 unfolding few
 starts-few n h = leb-true (start_of n) 1509 (at_each few 38 n refl (omega arith))
 
-mul-result : tie.Need-overflow-mul-result
-mul-result c = search rules
-
-mul-result-2 : tie.Need-overflow-mul-result-2
-mul-result-2 c = search rules
-
-index-1-result : tie.Need-bounds-1-result
-index-1-result c = search rules
-
-index-2-result : tie.Need-bounds-2-result
-index-2-result c = search rules
-
-cast-result : tie.Need-overflow-cast-result
-cast-result c = omega (arith, starts-few c.before.args.number (search rules))
-
-returns : tie.Need-returns
-returns c = starts-right c.before.args.number (search rules)
-
-pub start-of-spec : {M : Type 1} → statement M
-start-of-spec =
-    tie.close (tie.spec mul-result mul-result-2 index-1-result index-2-result cast-result returns)
+pub returns : goal.returns
+returns c = starts-right c.args.number (search rules)
