@@ -13,7 +13,7 @@ use crate::{gathered, mandatory, objects, options};
 
 // What a run tells the tests of its constraints: one more than the count of its HP metric, 0 for none; the latency and the ETX that it
 // received, where a metric adds them up along the path, else 0.
-#[derive(Drop)]
+#[derive(Clone, Copy)]
 pub struct Told {
     pub hops: u16,
     pub latency: u32,
@@ -22,7 +22,7 @@ pub struct Told {
 
 // A run that is read: refused by a bar, at the object of index place (65535 for none); or well-formed, with the number of its objects,
 // whether it has mandatory constraints, and what it tells their tests.
-#[derive(Drop)]
+#[derive(Clone, Copy)]
 pub enum Reading {
     Refused {
         number: u8,

@@ -14,7 +14,7 @@ use crate::{bars, mandatory, numbers, objects, seen, table};
 // What is gathered of the objects up to the first with a bar: its number, or 0; its index, or the number of objects; the
 // uses seen; one more than the count of the HP metric, 0 for none; the latency and the ETX that are added up along the path, else 0; the
 // flags seen, by bits. Numbers alone stay in registers.
-#[derive(Drop)]
+#[derive(Clone, Copy)]
 pub struct Gathered {
     pub number: u8,
     pub place: usize,

@@ -1,5 +1,7 @@
 // From bytes to objects: the step over a container's objects and from one container of a run to the next, the table of the types, and the
 // bars of a container or a run by itself: 13 to 17, 22 and 23.
+#![tactic(auto)]
+
 mod bars;
 mod bodies;
 mod container;

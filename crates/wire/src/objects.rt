@@ -4,7 +4,7 @@ ghost use Rattle.model.specs.Object.{is_constraint, is_recorded, role_of};
 ghost use Rattle.wire.specs.Step.{first_cursor, step_at};
 
 // Header bytes 0 to 2 of an object: its type (Routing-MC-Type); the flags P, C and O; the mode R, A and Prec.
-#[derive(Drop)]
+#[derive(Clone, Copy)]
 pub struct Header {
     pub mctype: u8,
     pub flags: u8,
@@ -12,14 +12,14 @@ pub struct Header {
 }
 
 // A place between two objects of a container. Only the step looks into it.
-#[derive(Drop)]
+#[derive(Clone, Copy)]
 pub struct Cursor {
     at: usize,
 }
 
 // What stands at a cursor: an object, whose body is the container's bytes from start to end; a header or a body that
 // runs past the end; or nothing more.
-#[derive(Drop)]
+#[derive(Clone, Copy)]
 pub enum Step {
     Found {
         header: Header,

@@ -10,7 +10,7 @@ use crate::objects::Cursor;
 
 // What options lead to: a container with data, by the cursor before its first object and the index behind its last byte; an option that
 // is cut short; or nothing more.
-#[derive(Drop)]
+#[derive(Clone, Copy)]
 pub enum Entry {
     Into { first: Cursor, end: usize },
     Short,
@@ -18,7 +18,7 @@ pub enum Entry {
 }
 
 // Where a walk over a run starts: a cursor, and the end of the container that it stands in.
-#[derive(Drop)]
+#[derive(Clone, Copy)]
 pub struct Start {
     pub cursor: Cursor,
     pub end: usize,

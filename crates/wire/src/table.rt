@@ -5,7 +5,7 @@ ghost use Rattle.wire.specs.Row.{byte_for, row_for};
 
 // A row. A constraint or an aggregated metric has base bytes, and TLVs behind them where tlvs; a metric can be recorded where
 // records, as lead bytes and sub-objects of size bytes; bit a of allows is 1 where it can be aggregated by A = a.
-#[derive(Drop)]
+#[derive(Clone, Copy)]
 pub struct Row {
     pub base: u8,
     pub tlvs: bool,
