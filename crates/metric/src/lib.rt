@@ -1,4 +1,6 @@
 // What this hop makes of one metric or constraint: leaf answers 31 to 34 and 36, header bytes, values, and the bytes of changed bodies.
+#![tactic(auto)]
+
 mod colours;
 mod headers;
 mod leaves;

@@ -78,7 +78,7 @@ pub fn local_or_0(own: Own, neighbour: Neighbour, mctype: u8) -> u32
 }
 
 // A sum that fits its field, or is over the field's maximum.
-#[derive(Drop)]
+#[derive(Clone, Copy)]
 pub enum Sum {
     Fits(u32),
     Over,

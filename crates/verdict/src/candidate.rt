@@ -13,7 +13,7 @@ use model::{Candidate, Neighbour, Own, Quantity, Summary, Verdict};
 use wire::{Entry, Reading, Step, Told};
 
 // The first object with bar 18 or 19: the number and its index. Number 0 for none.
-#[derive(Drop)]
+#[derive(Clone, Copy)]
 pub struct Barring {
     pub number: u8,
     pub place: u16,

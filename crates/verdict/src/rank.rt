@@ -8,7 +8,7 @@ ghost use Rattle.verdict.specs.Growth.{growth_of};
 use model::{Neighbour, Offer, Own, Rank, Units, Verdict};
 
 // A rank that has grown: finite, or 65535 and more.
-#[derive(Drop)]
+#[derive(Clone, Copy)]
 pub enum Growth {
     Finite(Rank),
     Infinite,
