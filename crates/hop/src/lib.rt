@@ -1,4 +1,6 @@
 // One hop: leaf answers 31 to 36, and the parent's objects updated for the next hop.
+#![tactic(auto)]
+
 mod aggregated;
 mod bodies;
 mod bytes;

@@ -14,7 +14,7 @@ use model::{Neighbour, Own};
 use wire::{Cursor, Entry, Header, Start, Step};
 
 // What is sent on: a leaf number, 0 for none; and document 01's length of the containers in the output, 0 for none.
-#[derive(Drop)]
+#[derive(Clone, Copy)]
 pub struct Sent {
     pub leaf: u8,
     pub size: u16,
@@ -22,7 +22,7 @@ pub struct Sent {
 
 // Objects by containers: containers closed; their bytes with frames, behind which the open one's frame stands; the bytes in the open
 // one, 256 where there is no room for the objects.
-#[derive(Drop)]
+#[derive(Clone, Copy)]
 pub struct Filled {
     pub closed: usize,
     pub frame: usize,
@@ -30,14 +30,14 @@ pub struct Filled {
 }
 
 // What is known of the objects so far: the first of 31 to 34 and 36, or 0; their containers for the next hop.
-#[derive(Drop)]
+#[derive(Clone, Copy)]
 pub struct Planned {
     pub leaf: u8,
     pub filled: Filled,
 }
 
 // What is known behind a container, and whether no object of it is cut short.
-#[derive(Drop)]
+#[derive(Clone, Copy)]
 pub struct Passed {
     pub planned: Planned,
     pub whole: bool,

@@ -20,21 +20,21 @@ use model::{Neighbour, Own};
 use wire::{Cursor, Entry, Header, Start, Step};
 
 // Where the next container goes in the output, and the next object in the array.
-#[derive(Drop)]
+#[derive(Clone, Copy)]
 pub struct Place {
     pub done: usize,
     pub at: usize,
 }
 
 // What is put next: where the container is built, and the index of the run up to which objects are put.
-#[derive(Drop)]
+#[derive(Clone, Copy)]
 pub struct Part {
     pub place: Place,
     pub last: usize,
 }
 
 // What is behind a part: the cursor, and where the next object goes.
-#[derive(Drop)]
+#[derive(Clone, Copy)]
 pub struct Behind {
     pub cursor: Cursor,
     pub at: usize,

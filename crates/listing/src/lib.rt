@@ -1,4 +1,6 @@
 // The text that lists a container.
+#![tactic(auto)]
+
 ghost use Rattle.std.specs.Prelude.{◌≡◌, ◌+◌, ◌≤◌, List, [], ◌++◌, length};
 ghost use Rattle.std.proofs.Math.Option.{some};
 ghost use Rattle.model.specs.Object.{Object};
@@ -14,7 +16,7 @@ use wire::{Header, Reading, Step};
 pub const TEXT_ROOM: usize = 1100;
 
 // A container is listed: the text is so many bytes long; or the output is too short for every text, and untouched.
-#[derive(Drop)]
+#[derive(Clone, Copy)]
 pub enum Listed {
     Text(usize),
     ShortOutput,
