@@ -20,7 +20,7 @@ pub const CURRENT: u8 = 5;
 pub const POSITION: u8 = 6;
 
 // The number of a criterion, 0 for none, and what one candidate and another have there, as their fields say it: of yes and no, yes is 1.
-#[derive(Drop)]
+#[derive(Clone, Copy)]
 pub struct Difference {
     pub criterion: u8,
     pub value: u16,

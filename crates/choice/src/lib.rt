@@ -1,4 +1,6 @@
 // The call: refusals, a verdict on each candidate, the preferred parent, and the containers for the next hop.
+#![tactic(auto)]
+
 ghost use Rattle.std.specs.Prelude.{◌≡◌};
 ghost use Rattle.model.specs.Choice.{call};
 ghost use Rattle.choice.specs.Given.{given};

@@ -6,7 +6,7 @@ ghost use Rattle.feed.specs.Step.{keep_number, more, stored, one_more, closed, c
 // where the buffer was too short, else between options; of the option in hand what becomes of it, 0 dropped, 1 kept as an empty container,
 // else kept whole, and how many of its bytes are missing; the containers so far, nine for more.
 #[repr(C)]
-#[derive(Drop)]
+#[derive(Clone, Copy)]
 pub struct Fed {
     pub size: u16,
     pub phase: u8,

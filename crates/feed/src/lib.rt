@@ -1,4 +1,6 @@
 // A run of options that comes in parts: its containers are kept in a lent buffer, as a run that reads as all that was fed.
+#![tactic(auto)]
+
 mod bytes;
 
 pub use bytes::{Fed, KEPT_ROOM, feed};

@@ -10,22 +10,19 @@ use borrow.Author.Tests.{lt-ltb, le-ltb, le-leb, lt-leb, eq-eqb, ne_eqb, not-tru
 use lib.ListN.{length, get_or, set, take, drop, length-set, length-take, length-drop, replicate, length-append}
 use lib.Seq.{drop-cons, take-suc, take-suc-set, set_split, get_or-set_same}
 use borrow.Author.Rules.{rules}
-use Rattle.feed.proofs.bytes.one_more.Statement.{statement}
-use Rattle.feed.proofs.bytes.one_more.Tie as tie
-use Rattle.feed.proofs.bytes.one_more.Reads as reads
-use Rattle.feed.proofs.bytes.one_more.Lts as lts
+use Rattle.feed.proofs.bytes.begin.Reads as reads
+use Rattle.feed.proofs.bytes.begin.Lts as lts
+use Rattle.feed.proofs.bytes.between.Reads as between-reads
+use Rattle.feed.proofs.bytes.keep_byte.Reads as keep-byte-reads
+use Rattle.feed.proofs.bytes.keep_of.Reads as keep-of-reads
+use Rattle.feed.proofs.bytes.begin.Goals as goal
 
--- src/bytes.rt:81:16
-add-result : tie.Need-overflow-add-result
-add-result c = search rules
+-- src/bytes.rt:137:9
+pub returns-then-byte-eq0 : goal.returns-then-byte-eq0
+unfolding begun begun_in
+returns-then-byte-eq0 c = record { value = rw (eq-eqb _ _ c.if-byte-eq0.true) c.between.ensures; written = rw (eq-eqb _ _ c.if-byte-eq0.true) }
 
--- src/bytes.rt:81:9
-returns : tie.Need-returns
-returns c = rw (lt-ltb _ _ c.if1.true)
-
--- src/bytes.rt:77:1
-returns-2 : tie.Need-returns-2
-returns-2 c = rw (le-ltb _ _ c.if1.false)
-
-pub one-more-spec : {M : Type 1} → statement M
-one-more-spec = tie.close (tie.spec add-result returns returns-2)
+-- src/bytes.rt:131:1
+pub returns : goal.returns
+unfolding begun begun_in
+returns c = record { value = rw (ne_eqb _ _ c.if-byte-eq0.false, c.keep_byte-typed.ensures.value, c.keep_of.ensures); written = rw (ne_eqb _ _ c.if-byte-eq0.false) c.keep_byte-typed.ensures.written }
