@@ -1,4 +1,6 @@
 // The static library for firmware: what include/gardhnosk.h declares.
+#![tactic(auto)]
+
 ghost use Rattle.std.specs.Prelude.{◌≡◌, length};
 ghost use Rattle.model.specs.Choice.{call};
 ghost use Rattle.choice.specs.Given.{given};

@@ -1,4 +1,6 @@
 // The static library of reasons, beside the one that chooses: what include/gardhnosk.h declares of them.
+#![tactic(auto)]
+
 ghost use Rattle.std.specs.Prelude.{◌≡◌};
 ghost use Rattle.choice.specs.Given.{given};
 ghost use Rattle.reason.specs.Why.{reason_of, why};

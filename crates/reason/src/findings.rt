@@ -4,7 +4,7 @@ ghost use Rattle.reason.specs.Finding.{finding};
 
 // In what way it falls short, by the numbers below; and the numbers of that way.
 #[repr(C)]
-#[derive(Drop)]
+#[derive(Clone, Copy)]
 pub struct Finding {
     pub way: u8,
     pub which: u64,

@@ -22,7 +22,7 @@ pub(crate) fn outside(candidate: Candidate, lent: usize) -> Finding
 }
 
 // The objects of a container: one is cut short, as is told of it; or all are whole, and this is the index behind the last.
-#[derive(Drop)]
+#[derive(Clone, Copy)]
 pub enum Objects {
     Short(Finding),
     All(u64),

@@ -1,4 +1,6 @@
 // Why a candidate is the parent, or is not; and what was asked of one that is barred.
+#![tactic(auto)]
+
 ghost use Rattle.std.specs.Prelude.{◌≡◌, cond, eqb};
 ghost use Rattle.model.specs.Choice.{current_of, after_verdict};
 ghost use Rattle.choice.specs.Given.{given};

@@ -8,7 +8,7 @@ use crate::findings;
 use crate::findings::Finding;
 
 // What stands at an index of a run: an option that is cut short, as is told of it; or one of a type, whole, with the index behind it.
-#[derive(Drop)]
+#[derive(Clone, Copy)]
 pub enum Piece {
     Cut(Finding),
     Whole { kind: u8, end: usize },

@@ -19,7 +19,7 @@ pub const BEATEN: u8 = 3;
 // position, the first criterion on which the two differ, and what the candidate and the parent have there. What a kind does not have is 0;
 // no parent is 255, no place is 65535.
 #[repr(C)]
-#[derive(Drop)]
+#[derive(Clone, Copy)]
 pub struct Reason {
     pub refusal: u8,
     pub kind: u8,
