@@ -24,7 +24,7 @@ const CANDIDATE: [u64; 16] = [
 ];
 
 // A case but for the lent run, and the index behind it on its line; 0 if there is none.
-#[derive(Drop)]
+#[derive(Clone, Copy)]
 pub struct Case {
     pub own: Own,
     pub candidates: [Candidate; 16],
@@ -34,7 +34,7 @@ pub struct Case {
 }
 
 // The candidates of a line, and the index behind them; 0 if they are not there.
-#[derive(Drop)]
+#[derive(Clone, Copy)]
 struct Candidates {
     list: [Candidate; 16],
     next: usize,

@@ -1,47 +1,70 @@
 // Writing the answer of a case, and the reasons.
-use libc::STDOUT_FILENO;
 use model::Answer;
 use reason::Reason;
+use std::io;
+use std::io::{BufWriter, Stdout, Write};
 
-pub fn text(bytes: &[u8]) {
-    io::write_all(STDOUT_FILENO, bytes);
+// Standard output behind a buffer, and the error of the first write that failed: nothing is written after it.
+#[derive(Drop)]
+pub struct Sink {
+    pub writer: BufWriter<Stdout>,
+    pub failed: Option<io::Error>,
+}
+
+const HEX: [u8; 16] = *b"0123456789abcdef";
+
+pub fn text(to: &mut Sink, bytes: &[u8]) {
+    if to.failed.is_none() {
+        to.failed = to.writer.write_all(bytes).err();
+    }
+}
+
+// Writes what is left in the buffer, and answers the first error.
+pub fn end(mut to: Sink) -> io::Result<()> {
+    if to.failed.is_none() {
+        to.failed = to.writer.flush().err();
+    }
+    match to.failed {
+        Some(e) => Err(e),
+        None => Ok(()),
+    }
 }
 
 // A number behind a mark.
-fn behind(mark: &[u8], n: u64) {
-    text(mark);
-    io::print_decimal(STDOUT_FILENO, n);
+fn behind(to: &mut Sink, mark: &[u8], n: u64) {
+    text(to, mark);
+    let mut digits = itoa::Buffer::new();
+    text(to, digits.format(n).as_bytes());
 }
 
 // A number behind a space.
-fn number(n: u64) {
-    behind(b" ", n);
+fn number(to: &mut Sink, n: u64) {
+    behind(to, b" ", n);
 }
 
 // A byte behind a space.
-fn byte(b: u8) {
-    text(b" ");
-    io::print_hex(STDOUT_FILENO, b as u64, 2);
+fn byte(to: &mut Sink, b: u8) {
+    text(to, &[b' ', HEX[(b / 16) as usize], HEX[(b % 16) as usize]]);
 }
 
 // The end of a line that is not a case, behind a name of so many bytes.
-pub fn unreadable(size: usize) {
+pub fn unreadable(to: &mut Sink, size: usize) {
     if 0 < size {
-        text(b" ");
+        text(to, b" ");
     }
-    text(b"unreadable\n");
+    text(to, b"unreadable\n");
 }
 
 // A verdict, and its place if it has one.
-fn verdict(v: u8, place: u16) {
-    number(v as u64);
+fn verdict(to: &mut Sink, v: u8, place: u16) {
+    number(to, v as u64);
     if place != 65535 {
-        behind(b"@", place as u64);
+        behind(to, b"@", place as u64);
     }
 }
 
 // The verdicts of the first candidates, so many as the count says, and whether any other is set.
-fn verdicts(answer: Answer, count: usize) {
+fn verdicts(to: &mut Sink, answer: Answer, count: usize) {
     let numbers = answer.verdicts;
     let places = answer.places;
     let mut beyond = false;
@@ -50,68 +73,68 @@ fn verdicts(answer: Answer, count: usize) {
         let v = numbers[i];
         let place = places[i];
         if i < count {
-            verdict(v, place);
+            verdict(to, v, place);
         } else {
             beyond = beyond | (v != 0) | (place != 65535);
         }
         i += 1;
     }
     if beyond {
-        text(b" beyond");
+        text(to, b" beyond");
     }
 }
 
 // The first bytes of an output, so many as the size says, and whether all others are as before.
-fn output(out: &[u8], size: u16) {
+fn output(to: &mut Sink, out: &[u8], size: u16) {
     let n = size as usize;
     let mut kept = true;
     let mut i = 0;
     while i < out.len() {
         let b = out[i];
         if i < n {
-            byte(b);
+            byte(to, b);
         } else {
             kept = kept & (b == 0xEE);
         }
         i += 1;
     }
     if kept {
-        text(b" kept");
+        text(to, b" kept");
     } else {
-        text(b" changed");
+        text(to, b" changed");
     }
 }
 
 // The answer of a call with so many candidates, and the output behind it.
-pub fn answer(given: Answer, count: usize, out: &[u8]) {
-    number(given.refusal as u64);
-    number(given.parent as u64);
-    number(given.rank.0 as u64);
-    number(given.bits as u64);
-    number(given.count as u64);
-    number(given.leaf as u64);
-    number(given.size as u64);
-    text(b" verdicts");
-    verdicts(given, count);
-    text(b" output");
-    output(out, given.size);
+pub fn answer(to: &mut Sink, given: Answer, count: usize, out: &[u8]) {
+    number(to, given.refusal as u64);
+    number(to, given.parent as u64);
+    number(to, given.rank.0 as u64);
+    number(to, given.bits as u64);
+    number(to, given.count as u64);
+    number(to, given.leaf as u64);
+    number(to, given.size as u64);
+    text(to, b" verdicts");
+    verdicts(to, given, count);
+    text(to, b" output");
+    output(to, out, given.size);
 }
 
 // Who beats a candidate, on what criterion, and what the two have there.
-fn beaten(why: Reason) {
-    number(why.parent as u64);
-    behind(b":", why.criterion as u64);
-    behind(b":", why.value as u64);
-    behind(b":", why.against as u64);
+fn beaten(to: &mut Sink, why: Reason) {
+    number(to, why.parent as u64);
+    behind(to, b":", why.criterion as u64);
+    behind(to, b":", why.value as u64);
+    behind(to, b":", why.against as u64);
 }
 
 // A reason, as one word.
-pub fn reason(why: Reason) {
+pub fn reason(to: &mut Sink, why: Reason) {
     let kind = why.kind;
     match kind {
-        reason::REFUSED => behind(b" refused-", why.refusal as u64),
-        reason::CHOSEN => text(b" chosen"),
-        reason::BARRED => verdict(why.number, why.place),
-        _ => beaten(why),
+        reason::REFUSED => behind(to, b" refused-", why.refusal as u64),
+        reason::CHOSEN => text(to, b" chosen"),
+        reason::BARRED => verdict(to, why.number, why.place),
+        _ => beaten(to, why),
     }
 }
