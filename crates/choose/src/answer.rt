@@ -3,7 +3,7 @@ ghost use Rattle.std.specs.Prelude.{◌≤◌, ◌<◌, length};
 ghost use Rattle.choose.specs.Sound.{Sound};
 
 use crate::say::Buffer;
-use crate::state::{Rows, State};
+use crate::state::{Lent, Rows, State};
 use crate::{names, report, settings, state, why};
 use model::{Candidate, Neighbour, Own, Rank};
 
@@ -167,11 +167,11 @@ fn reasons(s: State, rows: &Rows, lent: &[u8], out: &mut Buffer) -> State
 }
 
 // Calls, and writes the answer.
-pub(crate) fn run(s: State, rows: &Rows, lent: &Buffer, out: &mut Buffer) -> State
+pub(crate) fn run(s: State, rows: &Rows, lent: &Lent, out: &mut Buffer) -> State
     requires { Sound s }
     ensures { Sound result }
 {
-    let mut sent = io::buffer();
+    let mut sent = [0u8; 4096];
     let t = run_in(s, rows, lent, &mut sent, out);
     reasons(t, rows, lent, out)
 }

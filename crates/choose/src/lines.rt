@@ -4,14 +4,14 @@ ghost use Rattle.choose.specs.Sound.{Sound};
 
 use crate::say::{Buffer, Fault};
 use crate::settings::Next;
-use crate::state::{Rows, State};
+use crate::state::{Lent, Rows, State};
 use crate::{answer, names, sections, settings, state};
 
 // The bytes of a line at most, its end not among them.
 pub const LONGEST: usize = 8192;
 
 // Ends a call, and answers it where it has no error.
-fn end_call(s: State, rows: &mut Rows, lent: &Buffer, out: &mut Buffer) -> State
+fn end_call(s: State, rows: &mut Rows, lent: &Lent, out: &mut Buffer) -> State
     requires { Sound s }
     ensures { Sound result }
 {
@@ -32,7 +32,7 @@ fn word(
     to: usize,
     s: State,
     rows: &mut Rows,
-    lent: &mut Buffer,
+    lent: &mut Lent,
     out: &mut Buffer,
 ) -> Next
     requires from_le_to { (from ≤ to) × (to ≤ length line.now) }
@@ -63,7 +63,7 @@ fn word(
 }
 
 // The words of a line.
-fn words_of(line: &[u8], s: State, rows: &mut Rows, lent: &mut Buffer, out: &mut Buffer) -> State
+fn words_of(line: &[u8], s: State, rows: &mut Rows, lent: &mut Lent, out: &mut Buffer) -> State
     requires { Sound s }
     ensures { Sound result }
 {
@@ -82,7 +82,7 @@ fn words_of(line: &[u8], s: State, rows: &mut Rows, lent: &mut Buffer, out: &mut
 }
 
 // A line without its end.
-fn line(text: &[u8], s: State, rows: &mut Rows, lent: &mut Buffer, out: &mut Buffer) -> State
+fn line(text: &[u8], s: State, rows: &mut Rows, lent: &mut Lent, out: &mut Buffer) -> State
     requires { Sound s }
     ensures { Sound result }
 {
@@ -103,7 +103,7 @@ pub(crate) fn whole(
     text: &[u8],
     s: State,
     rows: &mut Rows,
-    lent: &mut Buffer,
+    lent: &mut Lent,
     out: &mut Buffer,
 ) -> Next
     requires { Sound s }
@@ -123,7 +123,7 @@ pub(crate) fn whole(
 }
 
 // What stands behind the last line's end: a line too, unless there is nothing.
-fn rest(text: &[u8], s: State, rows: &mut Rows, lent: &mut Buffer, out: &mut Buffer) -> State
+fn rest(text: &[u8], s: State, rows: &mut Rows, lent: &mut Lent, out: &mut Buffer) -> State
     requires { Sound s }
     ensures { Sound result }
 {
@@ -138,7 +138,7 @@ pub(crate) fn last(
     text: &[u8],
     s: State,
     rows: &mut Rows,
-    lent: &mut Buffer,
+    lent: &mut Lent,
     out: &mut Buffer,
 ) -> State
     requires { Sound s }

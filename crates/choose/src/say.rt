@@ -1,14 +1,20 @@
 // Writing: lines are gathered in a buffer, which is written out where it is full.
-ghost use Rattle.std.specs.Prelude.{◌≤◌, length};
+ghost use Rattle.std.specs.Prelude.{◌≤◌};
 
 use crate::names;
-use libc::STDOUT_FILENO;
+use std::io;
+use std::io::Stdout;
 
-// The output that is gathered; the lent run has the same type.
-pub type Buffer = [u8; 65536];
+// The output that is gathered, and the error of the first write that failed: nothing is written after it.
+#[derive(Drop)]
+pub struct Buffer {
+    pub gathered: [u8; 65536],
+    pub writer: Stdout,
+    pub failed: Option<io::Error>,
+}
 
 // What can be wrong with a call.
-#[derive(Drop)]
+#[derive(Clone, Copy)]
 pub enum Fault {
     UnknownWord,
     BeforeCall,
@@ -28,10 +34,12 @@ pub enum Fault {
 }
 
 // Writes what is gathered.
-pub(crate) fn flush(gathered: &[u8], size: usize)
-    requires { size ≤ length gathered.now }
+pub(crate) fn flush(out: &mut Buffer, size: usize)
+    requires { size ≤ 65536 }
 {
-    io::write_all(STDOUT_FILENO, &gathered[..size]);
+    if out.failed.is_none() {
+        out.failed = out.writer.write_all(&out.gathered[..size]).err();
+    }
 }
 
 // Puts a byte behind those that are gathered; answers how many they are then.
@@ -41,10 +49,10 @@ pub(crate) fn byte(out: &mut Buffer, held: usize, b: u8) -> usize
 {
     if held == 65536 {
         flush(out, held);
-        out[0] = b;
+        out.gathered[0] = b;
         return 1;
     }
-    out[held] = b;
+    out.gathered[held] = b;
     held + 1
 }
 
@@ -67,9 +75,8 @@ pub(crate) fn number(out: &mut Buffer, held: usize, n: u64) -> usize
     requires { held ≤ 65536 }
     ensures { result ≤ 65536 }
 {
-    let mut digits = [0u8; 20];
-    let k = io::decimal(n, &mut digits);
-    text(out, held, &digits[..k])
+    let mut digits = itoa::Buffer::new();
+    text(out, held, digits.format(n).as_bytes())
 }
 
 // Puts a text and a number.

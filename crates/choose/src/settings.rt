@@ -3,7 +3,7 @@ ghost use Rattle.std.specs.Prelude.{◌≡◌, ◌≤◌, ◌<◌, length};
 ghost use Rattle.choose.specs.Sound.{Sound, Holds};
 
 use crate::say::{Buffer, Fault};
-use crate::state::{Rows, State};
+use crate::state::{Lent, Rows, State};
 use crate::{names, state};
 use feed::Fed;
 use words::{Decimal, HexByte};
@@ -72,14 +72,14 @@ const OF_CANDIDATE: u64 = (1 << names::RANK)
     | (1 << names::GROUNDED);
 
 // A place on a line, and what is known there.
-#[derive(Drop)]
+#[derive(Clone, Copy)]
 pub struct Next {
     pub at: usize,
     pub state: State,
 }
 
 // The bytes on a line are in the lent run, which has so many then; or they are no such bytes; or too many.
-#[derive(Drop)]
+#[derive(Clone, Copy)]
 enum HexRun {
     Lent(usize),
     Bad,
@@ -87,7 +87,7 @@ enum HexRun {
 }
 
 // The bytes of a part are fed, with the state then; or they are no such bytes.
-#[derive(Drop)]
+#[derive(Clone, Copy)]
 enum Parted {
     Kept(Fed),
     Bad,
@@ -195,7 +195,7 @@ fn number(line: &[u8], end: usize, k: usize, s: State, rows: &mut Rows, out: &mu
 }
 
 // Puts the bytes of a line from an index on behind those of the lent run.
-fn lend(line: &[u8], from: usize, used: usize, lent: &mut Buffer) -> HexRun
+fn lend(line: &[u8], from: usize, used: usize, lent: &mut Lent) -> HexRun
     requires from_in_bounds { from ≤ length line.now }
     requires used_bound { used ≤ 65536 }
     ensures { Holds used result }
@@ -233,7 +233,7 @@ fn bytes(
     k: usize,
     s: State,
     rows: &mut Rows,
-    lent: &mut Buffer,
+    lent: &mut Lent,
     out: &mut Buffer,
 ) -> Next
     requires end_in_bounds { end ≤ length line.now }
@@ -303,7 +303,7 @@ fn part(
     end: usize,
     s: State,
     rows: &mut Rows,
-    lent: &mut Buffer,
+    lent: &mut Lent,
     out: &mut Buffer,
 ) -> Next
     requires end_in_bounds { end ≤ length line.now }
@@ -339,7 +339,7 @@ pub(crate) fn take(
     k: usize,
     s: State,
     rows: &mut Rows,
-    lent: &mut Buffer,
+    lent: &mut Lent,
     out: &mut Buffer,
 ) -> Next
     requires end_in_bounds { end ≤ length line.now }

@@ -25,8 +25,11 @@ pub const ROW: usize = GIVEN + 1;
 // The row of `call`, and one of each candidate.
 pub type Rows = [u64; ROW * 17];
 
+// The lent run.
+pub type Lent = [u8; 65536];
+
 // The place in the input, and what the call has so far.
-#[derive(Drop)]
+#[derive(Clone, Copy)]
 pub struct State {
     pub place: u8,
     // the line that is read; 0 before the first
