@@ -1,8 +1,8 @@
 /*
  * Chooses a preferred parent among three neighbours, and shows the container to send on. To build it:
  *
- *     rt staticlib gardhnosk
- *     gcc -std=c99 -Iinclude examples/choose.c target/staticlib/libgardhnosk.a -o choose
+ *     (cd crates/gardhnosk && rt lib)
+ *     gcc -std=c99 -Iinclude examples/choose.c crates/gardhnosk/out/libgardhnosk.a -o choose
  */
 #include <stdio.h>
 
