@@ -16,7 +16,7 @@ ghost use Rattle.std.specs.Prelude.{◌≤◌, length};
 
 use crate::say::Sink;
 use std::io;
-use std::io::{BufWriter, Read, Stdin};
+use std::io::{Read, Stdin};
 
 mod case;
 mod fields;
@@ -177,7 +177,7 @@ fn main(rt: HostRuntime) -> io::Result<()> {
         failed: None,
     };
     let mut to = Sink {
-        writer: BufWriter::with_capacity(rt.alloc(), 65536, rt.stdout())?,
+        writer: rt.stdout(),
         failed: None,
     };
     let mut input = [0u8; 65536];
@@ -191,9 +191,8 @@ fn main(rt: HostRuntime) -> io::Result<()> {
         }
         held = done.held;
     }
-    let written = say::end(to);
-    match from.failed {
+    match from.failed.or(to.failed) {
         Some(e) => Err(e),
-        None => written,
+        None => Ok(()),
     }
 }

@@ -2,12 +2,12 @@
 use model::Answer;
 use reason::Reason;
 use std::io;
-use std::io::{BufWriter, Stdout, Write};
+use std::io::Stdout;
 
-// Standard output behind a buffer, and the error of the first write that failed: nothing is written after it.
+// Standard output, and the error of the first write that failed: nothing is written after it.
 #[derive(Drop)]
 pub struct Sink {
-    pub writer: BufWriter<Stdout>,
+    pub writer: Stdout,
     pub failed: Option<io::Error>,
 }
 
@@ -16,17 +16,6 @@ const HEX: [u8; 16] = *b"0123456789abcdef";
 pub fn text(to: &mut Sink, bytes: &[u8]) {
     if to.failed.is_none() {
         to.failed = to.writer.write_all(bytes).err();
-    }
-}
-
-// Writes what is left in the buffer, and answers the first error.
-pub fn end(mut to: Sink) -> io::Result<()> {
-    if to.failed.is_none() {
-        to.failed = to.writer.flush().err();
-    }
-    match to.failed {
-        Some(e) => Err(e),
-        None => Ok(()),
     }
 }
 

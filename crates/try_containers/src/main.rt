@@ -8,30 +8,19 @@
 ghost use Rattle.std.specs.Prelude.{◌≤◌, IfOk, length};
 
 use std::io;
-use std::io::{BufWriter, Read, Stdin, Stdout, Write};
+use std::io::{Read, Stdin, Stdout};
 use wire::{Reading, Told};
 
-// Standard output behind a buffer, and the error of the first write that failed: nothing is written after it.
+// Standard output, and the error of the first write that failed: nothing is written after it.
 #[derive(Drop)]
 struct Sink {
-    writer: BufWriter<Stdout>,
+    writer: Stdout,
     failed: Option<io::Error>,
 }
 
 fn say(out: &mut Sink, text: &[u8]) {
     if out.failed.is_none() {
         out.failed = out.writer.write_all(text).err();
-    }
-}
-
-// Writes what is left in the buffer, and answers the first error.
-fn end(mut out: Sink) -> io::Result<()> {
-    if out.failed.is_none() {
-        out.failed = out.writer.flush().err();
-    }
-    match out.failed {
-        Some(e) => Err(e),
-        None => Ok(()),
     }
 }
 
@@ -125,11 +114,14 @@ fn read_full(mut input: Stdin, buffer: &mut [u8]) -> io::Result<usize>
 
 fn main(rt: HostRuntime) -> io::Result<()> {
     let mut out = Sink {
-        writer: BufWriter::with_capacity(rt.alloc(), 65536, rt.stdout())?,
+        writer: rt.stdout(),
         failed: None,
     };
     let mut input = [0u8; 65536];
     let n = read_full(rt.stdin(), &mut input)?;
     run(&mut out, &input[..n]);
-    end(out)
+    match out.failed {
+        Some(e) => Err(e),
+        None => Ok(()),
+    }
 }
