@@ -6,7 +6,7 @@ use mathlib.Core.Bool.{Bool, true, false}
 use mathlib.Core.List.{List, [], ◌∷◌}
 use lib.Dec.{eqb}
 use borrow.Author.Tests.{eq-eqb, ne_eqb, eqb-true, eqb-false}
-use Rattle.model.specs.declared.Quantity.{Quantity}
+use Rattle.model.specs.Number.{Quantity}
 use Rattle.model.specs.declared.Offer.{Offer}
 use Rattle.model.specs.Choice.{not_current, criteria}
 use Rattle.choice.specs.Difference.{behind, first_difference, differ, differ_at, difference_of, ahead_difference}

@@ -1,6 +1,6 @@
 -- On which criterion two unbarred candidates differ first.
 use Rattle.std.specs.Prelude.{ℕ, zero, suc, ◌-◌, ◌/◌, ◌%◌, cond, ◌||◌, List, [], ◌∷◌, get_or, eqb}
-use Rattle.model.specs.declared.Quantity.{Quantity}
+use Rattle.model.specs.Number.{Quantity}
 use Rattle.model.specs.declared.Offer.{Offer}
 use Rattle.model.specs.Choice.{criteria}
 use Rattle.choice.specs.declared.differences.Difference.{Difference}

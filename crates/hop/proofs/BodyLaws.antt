@@ -8,8 +8,8 @@ use lib.ListN.{length, get_or, set, take, drop, length-append}
 use lib.Seq.{take_all}
 use lib.Dec.{ltb, eqb}
 use borrow.Author.Tests.{ltb-true, eq-eqb, ne_eqb, eqb-true, eqb-false}
-use Rattle.model.specs.declared.Quantity.{Quantity}
-use Rattle.model.specs.declared.Quantity.TheVariants.{Known, Unknown}
+use Rattle.model.specs.Number.{Quantity}
+use Rattle.std.specs.Prelude.{Some, None}
 use Rattle.model.specs.declared.Own.{Own}
 use Rattle.model.specs.declared.Neighbour.{Neighbour}
 use Rattle.model.specs.Number.{number, big_endian}
@@ -44,7 +44,7 @@ node_value own c t h =
     by_type (λ t. eqb t 1 || eqb t 2 || eqb t 3 ≡ true → value_or_0 (local_value own c (kind_of t)) ≤ 255)
     (λ e. omega arith) (λ e. omega arith) (λ e. energy (eqb (own.flags / 4 % 2) 1)) (λ e. omega arith) (λ e. absurd (false≢true e)) (λ e. absurd (false≢true e)) (λ e. absurd (false≢true e)) (λ e. absurd (false≢true e)) (λ e. absurd (false≢true e)) (λ t p e. rw p.kind (omega arith)) t
   where
-    energy : (b : Bool) → value_or_0 (cond b (Known own.energy) Unknown) ≤ 255
+    energy : (b : Bool) → value_or_0 (cond b (Some own.energy) None) ≤ 255
     energy true = h
     energy false = omega arith
 
@@ -58,10 +58,10 @@ on_field_lem w f b h d e p = rw (eq-eqb (length b) w h) (rw (e, d) at p)
 
 -- ---- sub-objects
 
-pub sub_known : {l m : List ℕ} {at n v : ℕ} (w : ℕ) (q : Quantity) → q ≡ Known v → Put l at (big_endian w v) n m → Put l at (sub_object w q) n m
+pub sub_known : {l m : List ℕ} {at n v : ℕ} (w : ℕ) (q : Quantity) → q ≡ Some v → Put l at (big_endian w v) n m → Put l at (sub_object w q) n m
 sub_known w q e p = rw e p
 
-pub sub_unknown : (l : List ℕ) (at w : ℕ) (q : Quantity) → q ≡ Unknown → Put l at [] at l → Put l at (sub_object w q) at l
+pub sub_unknown : (l : List ℕ) (at w : ℕ) (q : Quantity) → q ≡ None → Put l at [] at l → Put l at (sub_object w q) at l
 sub_unknown l at w q e p = rw e p
 
 -- ---- sub-objects behind a reserved byte

@@ -7,27 +7,27 @@ ghost use Rattle.model.specs.Update as update;
 ghost use Rattle.wire.specs.Put.{Put};
 
 use crate::{bytes, colours, levels};
-use model::{Neighbour, Own, Quantity};
+use model::{Neighbour, Own};
 
 // Puts the link's value as a sub-object of four bytes, where it is known.
-fn put_sub_4(out: &mut [u8], at: usize, q: Quantity) -> usize
+fn put_sub_4(out: &mut [u8], at: usize, q: Option<u32>) -> usize
     requires { at + length (sub_object 4 q) ≤ length out.old }
     ensures { Put out.old at (sub_object 4 q) result out.new }
 {
     match q {
-        Quantity::Known(v) => bytes::put_4(out, at, v),
-        Quantity::Unknown => at,
+        Some(v) => bytes::put_4(out, at, v),
+        None => at,
     }
 }
 
 // Puts the link's value as a sub-object of two bytes, where it is known.
-fn put_sub_2(out: &mut [u8], at: usize, q: Quantity) -> usize
+fn put_sub_2(out: &mut [u8], at: usize, q: Option<u32>) -> usize
     requires { at + length (sub_object 2 q) ≤ length out.old }
     ensures { Put out.old at (sub_object 2 q) result out.new }
 {
     match q {
-        Quantity::Known(v) => bytes::put_2(out, at, v),
-        Quantity::Unknown => at,
+        Some(v) => bytes::put_2(out, at, v),
+        None => at,
     }
 }
 

@@ -5,8 +5,8 @@ use mathlib.Core.Bool.{cond, not, ◌&&◌, ◌||◌}
 use mathlib.Core.List.{List, [], ◌∷◌, ◌++◌, append-nil}
 use lib.ListN.{get_or}
 use lib.Dec.{eqb}
-use Rattle.model.specs.declared.Quantity.{Quantity}
-use Rattle.model.specs.declared.Quantity.TheVariants.{Known, Unknown}
+use Rattle.model.specs.Number.{Quantity}
+use Rattle.std.specs.Prelude.{Some, None}
 use Rattle.model.specs.declared.Own.{Own}
 use Rattle.model.specs.declared.Neighbour.{Neighbour}
 use Rattle.model.specs.Number.{is_set, is_unknown, number}
@@ -19,16 +19,16 @@ use Rattle.metric.specs.Next.{link_of, clear_first, clear_second, combine_second
 -- ---- values
 
 pub link_by : (c : Neighbour) (t : ℕ)
-    → cond (eqb t 4) (link_value c throughput) (cond (eqb t 5) (link_value c latency) (cond (eqb t 7) (link_value c etx) Unknown)) ≡ link_of c (kind_of t)
+    → cond (eqb t 4) (link_value c throughput) (cond (eqb t 5) (link_value c latency) (cond (eqb t 7) (link_value c etx) None)) ≡ link_of c (kind_of t)
 unfolding kind_of
 link_by c =
-    by_type (λ t. cond (eqb t 4) (link_value c throughput) (cond (eqb t 5) (link_value c latency) (cond (eqb t 7) (link_value c etx) Unknown)) ≡ link_of c (kind_of t))
+    by_type (λ t. cond (eqb t 4) (link_value c throughput) (cond (eqb t 5) (link_value c latency) (cond (eqb t 7) (link_value c etx) None)) ≡ link_of c (kind_of t))
     refl refl refl refl refl refl refl refl refl (λ t p. rw (p.four, p.five, p.seven, p.kind))
 
 -- the local value by type
 abbrev pub local_by : Own → Neighbour → ℕ → Quantity
 local_by own c t =
-    cond (eqb t 1) (Known (own.flags % 4)) (cond (eqb t 2) (energy_in own.flags own.energy) (cond (eqb t 3) (Known 1) (cond (eqb t 6) (Known c.lql) (cond (eqb t 8) (Known c.colour) (link_of c (kind_of t))))))
+    cond (eqb t 1) (Some (own.flags % 4)) (cond (eqb t 2) (energy_in own.flags own.energy) (cond (eqb t 3) (Some 1) (cond (eqb t 6) (Some c.lql) (cond (eqb t 8) (Some c.colour) (link_of c (kind_of t))))))
 
 pub local_by_lem : (own : Own) (c : Neighbour) (t : ℕ) → local_by own c t ≡ local_value own c (kind_of t)
 unfolding kind_of local_value

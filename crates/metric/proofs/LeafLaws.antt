@@ -7,7 +7,7 @@ use mathlib.Core.List.{List}
 use lib.ListN.{length, get_or, get_or-eq_default}
 use lib.Dec.{ltb, eqb}
 use borrow.Author.Tests.{le-ltb, eq-eqb, ne_eqb}
-use Rattle.model.specs.declared.Quantity.TheVariants.{Known, Unknown}
+use Rattle.std.specs.Prelude.{Some, None}
 use Rattle.model.specs.declared.Own.{Own}
 use Rattle.model.specs.declared.Neighbour.{Neighbour}
 use Rattle.model.specs.Number.{is_set, number}
@@ -53,20 +53,20 @@ module _ (c : Neighbour) (b : List ℕ) where
   beyond_other = by_type (λ t. not (eqb t 4) && not (eqb t 5) ≡ true → false ≡ is_beyond c (kind_of t) b)
       (λ e. refl) (λ e. refl) (λ e. refl) (λ e. refl) (λ e. absurd (false≢true e)) (λ e. absurd (false≢true e)) (λ e. refl) (λ e. refl) (λ e. refl) (λ t p e. rw p.kind)
 
-  pub beyond_known : (t v : ℕ) → not (eqb t 4) && not (eqb t 5) ≡ false → link_of c (kind_of t) ≡ Known v → v < 4294967296
+  pub beyond_known : (t v : ℕ) → not (eqb t 4) && not (eqb t 5) ≡ false → link_of c (kind_of t) ≡ Some v → v < 4294967296
       → is_over (sum_in 4294967295 (number_in 4 b) v) ≡ is_beyond c (kind_of t) b
   unfolding kind_of
-  beyond_known t v e l h = past_number b v h ∙ by_type (λ t. not (eqb t 4) && not (eqb t 5) ≡ false → link_of c (kind_of t) ≡ Known v
+  beyond_known t v e l h = past_number b v h ∙ by_type (λ t. not (eqb t 4) && not (eqb t 5) ≡ false → link_of c (kind_of t) ≡ Some v
       → eqb (length b) 4 && ltb 4294967295 (number b + v) ≡ is_beyond c (kind_of t) b)
       other other other other (λ e l. rw l) (λ e l. rw l) other other other (λ t p e. absurd (true≢false (rw (p.four, p.five) at e))) t e l
     where
       other : {A B : Type 0} → true ≡ false → A → B
       other e a = absurd (true≢false e)
 
-  pub beyond_unknown : (t : ℕ) → link_of c (kind_of t) ≡ Unknown → false ≡ is_beyond c (kind_of t) b
+  pub beyond_unknown : (t : ℕ) → link_of c (kind_of t) ≡ None → false ≡ is_beyond c (kind_of t) b
   beyond_unknown t = go (kind_of t)
     where
-      go : (k : Kind) → link_of c k ≡ Unknown → false ≡ is_beyond c k b
+      go : (k : Kind) → link_of c k ≡ None → false ≡ is_beyond c k b
       go unknown l = refl
       go lql l = refl
       go colour l = refl

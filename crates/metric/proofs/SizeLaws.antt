@@ -8,8 +8,8 @@ use lib.ListN.{length, take, drop, length-append}
 use lib.Seq.{take_all}
 use lib.Dec.{eqb}
 use borrow.Author.Tests.{eq-eqb, ne_eqb, eqb-true}
-use Rattle.model.specs.declared.Quantity.{Quantity}
-use Rattle.model.specs.declared.Quantity.TheVariants.{Known, Unknown}
+use Rattle.model.specs.Number.{Quantity}
+use Rattle.std.specs.Prelude.{Some, None}
 use Rattle.model.specs.declared.Own.{Own}
 use Rattle.model.specs.declared.Neighbour.{Neighbour}
 use Rattle.model.specs.Number.{is_unknown, any_of, big_endian, number}
@@ -44,16 +44,16 @@ length_odd v (x ∷ y ∷ s) h = go (gains_in v x y) (length_odd v s (omega arit
     go false ih = omega arith
 
 sub_none : (w : ℕ) (q : Quantity) → is_unknown q ≡ true → sub_object w q ≡ []
-sub_none w (Known v) e = cc
-sub_none w Unknown e = refl
+sub_none w (Some v) e = cc
+sub_none w None e = refl
 
 length_big : (w v : ℕ) → length (big_endian w v) ≡ w
 length_big zero v = refl
 length_big (suc w) v = ap suc (length_big w v)
 
 sub_some : (w : ℕ) (q : Quantity) → is_unknown q ≡ false → length (sub_object w q) ≡ w
-sub_some w (Known v) e = length_big w v
-sub_some w Unknown e = cc
+sub_some w (Some v) e = length_big w v
+sub_some w None e = cc
 
 module _ (own : Own) (c : Neighbour) (t : ℕ) (b : List ℕ) where
   by_law : {n : ℕ} → n ≡ length (recorded_by own c t b) → n ≡ length (recorded_body own c (kind_of t) b)

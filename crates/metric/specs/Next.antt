@@ -1,7 +1,7 @@
 -- Parts of the model's update by kind, as the functions of the crate give them.
 use Rattle.std.specs.Prelude.{ℕ, ◌/◌, ◌%◌, Bool, cond, not, ◌&&◌, ◌||◌, ltb, eqb, List, get_or}
-use Rattle.model.specs.declared.Quantity.{Quantity}
-use Rattle.model.specs.declared.Quantity.TheVariants.{Unknown}
+use Rattle.model.specs.Number.{Quantity}
+use Rattle.std.specs.Prelude.{None}
 use Rattle.model.specs.declared.Own.{Own}
 use Rattle.model.specs.declared.Neighbour.{Neighbour}
 use Rattle.model.specs.Number.{is_unknown}
@@ -12,10 +12,10 @@ use Rattle.model.specs.Update.{local_value, clear0, clear1, combine1, no_energy,
 
 -- the link's value of a metric that is one number; of others there is none
 abbrev pub link_of : Neighbour → Kind → Quantity
-link_of c unknown = Unknown
-link_of c lql = Unknown
-link_of c colour = Unknown
-link_of c (node n) = Unknown
+link_of c unknown = None
+link_of c lql = None
+link_of c colour = None
+link_of c (node n) = None
 link_of c (scalar s) = link_value c s
 
 -- byte 0 of a constraint's body, or of an aggregated node metric's

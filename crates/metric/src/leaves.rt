@@ -7,7 +7,7 @@ ghost use Rattle.wire.specs.Step.{object_of};
 ghost use Rattle.metric.specs.Next.{full_in, over_in, valued_leaf, aggregated_leaf};
 
 use crate::values;
-use model::{Neighbour, Own, Quantity};
+use model::{Neighbour, Own};
 use wire::Header;
 
 // Whether the table allows a type to be aggregated by an A below 8.
@@ -63,8 +63,8 @@ fn is_beyond(neighbour: Neighbour, mctype: u8, body: &[u8]) -> bool
         return false;
     }
     match values::link_value(neighbour, mctype) {
-        Quantity::Known(v) => values::is_over(values::add(4294967295, wire::number_4(body), v)),
-        Quantity::Unknown => false,
+        Some(v) => values::is_over(values::add(4294967295, wire::number_4(body), v)),
+        None => false,
     }
 }
 

@@ -7,20 +7,20 @@ ghost use Rattle.model.specs.Update as update;
 ghost use Rattle.metric.specs.Next.{link_of};
 ghost use Rattle.metric.specs.Sums.{sum_in, is_over, stopped_at};
 
-use model::{Neighbour, Own, Quantity};
+use model::{Neighbour, Own};
 
 // A value that is known where its bit is 1.
-fn known_if(bit: u8, value: u32) -> Quantity
+fn known_if(bit: u8, value: u32) -> Option<u32>
     ensures { result ≡ known_if bit value }
 {
     if bit == 1 {
-        return Quantity::Known(value);
+        return Some(value);
     }
-    Quantity::Unknown
+    None
 }
 
 // The link's value of a metric that is one number.
-pub fn link_value(neighbour: Neighbour, mctype: u8) -> Quantity
+pub fn link_value(neighbour: Neighbour, mctype: u8) -> Option<u32>
     ensures { result ≡ link_of neighbour (kind_of mctype) }
 {
     if mctype == 4 {
@@ -32,38 +32,38 @@ pub fn link_value(neighbour: Neighbour, mctype: u8) -> Quantity
     if mctype == 7 {
         return known_if(neighbour.flags / 8 % 2, neighbour.etx as u32);
     }
-    Quantity::Unknown
+    None
 }
 
 // What this hop puts into a metric.
-pub(crate) fn local_value(own: Own, neighbour: Neighbour, mctype: u8) -> Quantity
+pub(crate) fn local_value(own: Own, neighbour: Neighbour, mctype: u8) -> Option<u32>
     ensures { result ≡ local_value own neighbour (kind_of mctype) }
 {
     if mctype == 1 {
-        return Quantity::Known((own.flags % 4) as u32);
+        return Some((own.flags % 4) as u32);
     }
     if mctype == 2 {
         return known_if(own.flags / 4 % 2, own.energy as u32);
     }
     if mctype == 3 {
-        return Quantity::Known(1);
+        return Some(1);
     }
     if mctype == 6 {
-        return Quantity::Known(neighbour.lql as u32);
+        return Some(neighbour.lql as u32);
     }
     if mctype == 8 {
-        return Quantity::Known(neighbour.colour as u32);
+        return Some(neighbour.colour as u32);
     }
     link_value(neighbour, mctype)
 }
 
 // Whether a quantity is unknown.
-pub(crate) fn is_unknown(q: Quantity) -> bool
+pub(crate) fn is_unknown(q: Option<u32>) -> bool
     ensures { result ≡ is_unknown q }
 {
     match q {
-        Quantity::Known(_) => false,
-        Quantity::Unknown => true,
+        Some(_) => false,
+        None => true,
     }
 }
 
@@ -72,8 +72,8 @@ pub fn local_or_0(own: Own, neighbour: Neighbour, mctype: u8) -> u32
     ensures { result ≡ value_or_0 (local_value own neighbour (kind_of mctype)) }
 {
     match local_value(own, neighbour, mctype) {
-        Quantity::Known(v) => v,
-        Quantity::Unknown => 0,
+        Some(v) => v,
+        None => 0,
     }
 }
 

@@ -8,8 +8,8 @@ use mathlib.Core.Option.{some, none-ne-some}
 use lib.ListN.{length, get_or, take, drop, get_elem?, take-append-drop}
 use lib.Dec.{ltb, eqb}
 use borrow.Author.Tests.{le-ltb, ltb-true, ltb-false}
-use Rattle.model.specs.declared.Quantity.{Quantity}
-use Rattle.model.specs.declared.Quantity.TheVariants.{Known, Unknown}
+use Rattle.model.specs.Number.{Quantity}
+use Rattle.std.specs.Prelude.{Some, None}
 use Rattle.model.specs.declared.Own.{Own}
 use Rattle.model.specs.declared.Neighbour.{Neighbour}
 use Rattle.model.specs.Number.{is_set, any_of, number, big_endian}
@@ -106,8 +106,8 @@ on_field_bytes w f b h = go (eqb (length b) w)
     go false = h
 
 sub_object_bytes : (w : ℕ) (q : Quantity) → Bytes (sub_object w q)
-sub_object_bytes w (Known v) = big_endian_bytes w v
-sub_object_bytes w Unknown = refl
+sub_object_bytes w (Some v) = big_endian_bytes w v
+sub_object_bytes w None = refl
 
 clear_each_bytes : (b : List ℕ) → Bytes b → Bytes (clear_each b)
 clear_each_bytes [] h = h
@@ -118,11 +118,11 @@ clear_each_bytes (x ∷ y ∷ t) h =
     more_bytes (x % 16) (y ∷ clear_each t) (omega arith) (more_bytes y (clear_each t) d (clear_each_bytes t l))
 
 -- a quantity that is a byte where it is known
-energy_byte : (b : Bool) (e : ℕ) → e ≤ 255 → value_or_0 (cond b (Known e) Unknown) ≤ 255
+energy_byte : (b : Bool) (e : ℕ) → e ≤ 255 → value_or_0 (cond b (Some e) None) ≤ 255
 energy_byte true e h = h
 energy_byte false e h = omega arith
 
-own_energy_bytes : (t : ℕ) (b : Bool) (e : ℕ) → t ≤ 3 → e ≤ 255 → Bytes (own_energy t (cond b (Known e) Unknown))
+own_energy_bytes : (t : ℕ) (b : Bool) (e : ℕ) → t ≤ 3 → e ≤ 255 → Bytes (own_energy t (cond b (Some e) None))
 own_energy_bytes t true e h k = more_bytes (t * 2 + 1) (e ∷ []) (omega arith) (more_bytes e [] k refl)
 own_energy_bytes t false e h k = more_bytes (t * 2) (0 ∷ []) (omega arith) refl
 

@@ -9,7 +9,7 @@ use lib.ListN.{length, set, replicate, length-append}
 use lib.Seq.{append_snoc, set-append_seam}
 use lib.Dec.{leb, ltb, eqb}
 use borrow.Author.Tests.{le-ltb, eq-eqb, ne_eqb}
-use Rattle.model.specs.declared.Quantity.{Quantity}
+use Rattle.model.specs.Number.{Quantity}
 use Rattle.model.specs.declared.Own.{Own}
 use Rattle.model.specs.declared.Verdict.{Verdict}
 use Rattle.model.specs.declared.Choice.{Choice}

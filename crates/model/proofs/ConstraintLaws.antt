@@ -7,8 +7,8 @@ use lib.ListN.{get_or}
 use lib.Dec.{leb, ltb, eqb}
 use native.Mathlib.Omega.{arith}
 use borrow.Author.Tests.{eqb-true, eq-eqb, ne_eqb}
-use Rattle.model.specs.declared.Quantity.{Quantity}
-use Rattle.model.specs.declared.Quantity.TheVariants.{Known, Unknown}
+use Rattle.model.specs.Number.{Quantity}
+use Rattle.std.specs.Prelude.{Some, None}
 use Rattle.model.specs.declared.Neighbour.{Neighbour}
 use Rattle.model.specs.declared.Summary.{Summary}
 use Rattle.model.specs.Number.{is_set, known_if, satisfies, is_unknown, number}
@@ -23,15 +23,15 @@ use Rattle.model.specs.Constraint.{is_aggregator, is_overloaded, energy_in, link
 pub satisfies_known : (f : ℕ → Bool) (b v : ℕ) → is_set b && f v ≡ satisfies f (known_if b v)
 satisfies_known f b v = go (is_set b)
   where
-    go : (t : Bool) → t && f v ≡ satisfies f (cond t (Known v) Unknown)
+    go : (t : Bool) → t && f v ≡ satisfies f (cond t (Some v) None)
     go true = refl
     go false = refl
 
 -- if it is known, its bit is 1, and it is the number
-pub known_is : (b x v : ℕ) → known_if b x ≡ Known v → (b ≡ 1) × (x ≡ v)
+pub known_is : (b x v : ℕ) → known_if b x ≡ Some v → (b ≡ 1) × (x ≡ v)
 known_is b x v e = go (is_set b) refl e
   where
-    go : (t : Bool) → is_set b ≡ t → cond t (Known x) Unknown ≡ Known v → (b ≡ 1) × (x ≡ v)
+    go : (t : Bool) → is_set b ≡ t → cond t (Some x) None ≡ Some v → (b ≡ 1) × (x ≡ v)
     go true t e = (eqb-true b 1 t, cc)
     go false t e = absurd (let z : ◌≡◌ {A = ℕ} 0 1 = cc in omega arith)
 
@@ -39,7 +39,7 @@ known_is b x v e = go (is_set b) refl e
 unknown_or : (x : Bool) (f : ℕ → Bool) (b v : ℕ) → x || not (is_set b) || f v ≡ x || is_unknown (known_if b v) || satisfies f (known_if b v)
 unknown_or x f b v = go x (is_set b)
   where
-    go : (x t : Bool) → x || not t || f v ≡ x || is_unknown (cond t (Known v) Unknown) || satisfies f (cond t (Known v) Unknown)
+    go : (x t : Bool) → x || not t || f v ≡ x || is_unknown (cond t (Some v) None) || satisfies f (cond t (Some v) None)
     go x true = refl
     go true false = refl
     go false false = refl

@@ -6,7 +6,7 @@ use mathlib.Core.List.{List, [], ◌∷◌, ◌++◌, append-nil}
 use lib.ListN.{length, take, drop, get_or}
 use lib.Dec.{leb, eqb}
 use borrow.Author.Tests.{eqb-true}
-use Rattle.model.specs.declared.Quantity.TheVariants.{Known, Unknown}
+use Rattle.std.specs.Prelude.{Some, None}
 use Rattle.model.specs.declared.Summary.{Summary}
 use Rattle.model.specs.declared.Neighbour.{Neighbour}
 use Rattle.model.specs.Number.{number, any_of, ◌when◌, first_case, first_of}
@@ -176,7 +176,7 @@ path_value-cut s = from_first-cut 0 (adds_up s) (λ o. number o.body) (λ o. ref
 
 summary-cut : (os : List Object) → summary (cut os) ≡ summary os
 summary-cut os = rw (
-  from_first-cut Unknown counts_hops (λ o. Known (get_or o.body 1 0)) (λ o. refl) (λ o e. rw cut_body_byte1) unknown_hops os,
+  from_first-cut None counts_hops (λ o. Some (get_or o.body 1 0)) (λ o. refl) (λ o e. rw cut_body_byte1) unknown_hops os,
   path_value-cut latency os,
   path_value-cut etx os,
 )

@@ -7,7 +7,7 @@ use mathlib.Core.List.{List, [], ◌∷◌}
 use lib.ListN.{length, get_or}
 use lib.Dec.{ltb, eqb}
 use borrow.Author.Tests.{eqb-true, eqb-false, ltb-true, ltb-false}
-use Rattle.model.specs.declared.Quantity.TheVariants.{Known, Unknown}
+use Rattle.std.specs.Prelude.{Some, None}
 use Rattle.model.specs.declared.Own.{Own}
 use Rattle.model.specs.declared.Neighbour.{Neighbour}
 use Rattle.model.specs.Number.{is_set, known_if, is_unknown, any_of}
@@ -126,7 +126,7 @@ value_within (link s) bs o k w b h = w.received s k b
 known_bit : (b v : ℕ) → is_unknown (known_if b v) ≡ false → is_set b ≡ true
 known_bit b v e = go (is_set b) e
   where
-    go : (t : Bool) → is_unknown (cond t (Known v) Unknown) ≡ false → t ≡ true
+    go : (t : Bool) → is_unknown (cond t (Some v) None) ≡ false → t ≡ true
     go true e = refl
     go false e = absurd (true≢false e)
 
@@ -172,7 +172,7 @@ module _ (h : Hop) (bs : List ℕ) (o : Object) (r : role o ≡ aggregated) (w :
   known (link latency) k = known_bit (c.flags / 16 % 2) c.latency (rw k at has_value)
   known (link etx) k = known_bit (c.flags / 8 % 2) c.etx (rw k at has_value)
 
-  link_known : (s : Scalar) → knows (link s) h ≡ true → link_value c s ≡ Known (local_at (link s) h)
+  link_known : (s : Scalar) → knows (link s) h ≡ true → link_value c s ≡ Some (local_at (link s) h)
   unfolding link_value
   link_known throughput e = rw e
   link_known latency e = rw e

@@ -7,7 +7,7 @@ use mathlib.Core.List.{List, [], ◌∷◌}
 use mathlib.Core.Option.{some}
 use lib.ListN.{length, get_or, get_elem?}
 use borrow.Author.Tests.{eq-eqb, le-leb}
-use Rattle.model.specs.declared.Quantity.TheVariants.{Known}
+use Rattle.std.specs.Prelude.{Some}
 use Rattle.model.specs.declared.Own.{Own}
 use Rattle.model.specs.declared.Neighbour.{Neighbour}
 use Rattle.model.specs.Number.{is_set, known_if, number, first_of}
@@ -43,7 +43,7 @@ in_field throughput v h = omega arith
 in_field latency v h = omega arith
 in_field etx v h = omega arith
 
-module _ (own : Own) (c : Neighbour) (o : Object) (s : Scalar) (v : ℕ) (k : kind o ≡ scalar s) (r : role o ≡ aggregated) (l : link_value c s ≡ Known v) (w : length o.body ≡ width_of s) where
+module _ (own : Own) (c : Neighbour) (o : Object) (s : Scalar) (v : ℕ) (k : kind o ≡ scalar s) (r : role o ≡ aggregated) (l : link_value c s ≡ Some v) (w : length o.body ≡ width_of s) where
   -- what is sent is the combined value, where that fits the field
   pub sent : (a : ℕ) → field_a o ≡ a → combine a (most_of s) (number o.body) v ≤ most_of s → number (update_object own c o).body ≡ combine a (most_of s) (number o.body) v
   unfolding update_object local_value aggregated_body
@@ -144,11 +144,11 @@ node_known : (t : ℕ) → 1 ≤ t → t ≤ 3 → known (kind_of t) ≡ true
 node_known t h l = known_types t ∙ rw (le-leb 1 t h, le-leb t 8 (omega arith))
 
 -- a known value is the number behind its bit
-within : (b x v most : ℕ) → x ≤ most → known_if b x ≡ Known v → v ≤ most
+within : (b x v most : ℕ) → x ≤ most → known_if b x ≡ Some v → v ≤ most
 within b x v most h e = let (k, q) = known_is b x v e in omega arith
 
 -- a link's value within its type fits the field
-link_fits : (s : Scalar) (c : Neighbour) (v : ℕ) → LinkWithin c → link_value c s ≡ Known v → v ≤ most_of s
+link_fits : (s : Scalar) (c : Neighbour) (v : ℕ) → LinkWithin c → link_value c s ≡ Some v → v ≤ most_of s
 unfolding link_value
 link_fits throughput c v w e = within (c.flags / 32 % 2) c.throughput v 4294967295 w.throughput e
 link_fits latency c v w e = within (c.flags / 16 % 2) c.latency v 4294967295 w.latency e

@@ -8,8 +8,8 @@ use mathlib.Core.Option.{none, some}
 use lib.ListN.{length, get_or, get_elem?, replicate, length-map}
 use lib.Dec.{eqb}
 use borrow.Author.Tests.{eqb-true, ne_eqb, eq-eqb}
-use Rattle.model.specs.declared.Quantity.{Quantity}
-use Rattle.model.specs.declared.Quantity.TheVariants.{Known, Unknown}
+use Rattle.model.specs.Number.{Quantity}
+use Rattle.std.specs.Prelude.{Some, None}
 use Rattle.model.specs.declared.Offer.{Offer}
 use Rattle.model.specs.declared.Own.{Own}
 use Rattle.model.specs.declared.Neighbour.{Neighbour}
@@ -32,28 +32,28 @@ use Rattle.model.proofs.VerdictLaws.{site_in_range, nothing_bars, admitted, ten,
 
 -- ---- the criteria
 
-pub current_is : (q : Quantity) (p : ℕ) → not_current q p ≤ 0 → q ≡ Known p
-current_is (Known i) p h = go (eqb i p) refl h
+pub current_is : (q : Quantity) (p : ℕ) → not_current q p ≤ 0 → q ≡ Some p
+current_is (Some i) p h = go (eqb i p) refl h
   where
-    go : (b : Bool) → eqb i p ≡ b → cond b 0 1 ≤ 0 → Known i ≡ Known p
-    go true e h = ap Known (eqb-true i p e)
+    go : (b : Bool) → eqb i p ≡ b → cond b 0 1 ≤ 0 → Some i ≡ Some p
+    go true e h = ap Some (eqb-true i p e)
     go false e h = absurd (omega arith)
-current_is Unknown p h = absurd (omega arith)
+current_is None p h = absurd (omega arith)
 
-is_current : (q : Quantity) (p : ℕ) → q ≡ Known p → not_current q p ≡ 0
+is_current : (q : Quantity) (p : ℕ) → q ≡ Some p → not_current q p ≡ 0
 is_current q p e = rw (e, eq-eqb p p refl)
 
-not_current_lem : (q : Quantity) (p : ℕ) → (q ≡ Known p → ⊥) → not_current q p ≡ 1
-not_current_lem (Known i) p h = let f : eqb i p ≡ false = ne_eqb i p (λ e. h (ap Known e)) in rw f
-not_current_lem Unknown p h = refl
+not_current_lem : (q : Quantity) (p : ℕ) → (q ≡ Some p → ⊥) → not_current q p ≡ 1
+not_current_lem (Some i) p h = let f : eqb i p ≡ false = ne_eqb i p (λ e. h (ap Some e)) in rw f
+not_current_lem None p h = refl
 
 pub at_most_one : (q : Quantity) (p : ℕ) → not_current q p ≤ 1
-at_most_one (Known i) p = go (eqb i p)
+at_most_one (Some i) p = go (eqb i p)
   where
     go : (b : Bool) → cond {A = ℕ} b 0 1 ≤ 1
     go true = omega arith
     go false = omega arith
-at_most_one Unknown p = omega arith
+at_most_one None p = omega arith
 
 -- ---- counts
 
@@ -137,7 +137,7 @@ module _ (own : Own) (cs : List Candidate) (lent out : List ℕ) (taken : (call 
       same_offer : (r s : Offer) → Unbarred r ≡ Unbarred s → r ≡ s
       same_offer r s e = cc
 
-      known_same : (q : Quantity) (p i : ℕ) → q ≡ Known p → q ≡ Known i → p ≡ i
+      known_same : (q : Quantity) (p i : ℕ) → q ≡ Some p → q ≡ Some i → p ≡ i
       known_same q p i a b = cc
 
       -- level in the rank too, p is current, or neither is and p is lower

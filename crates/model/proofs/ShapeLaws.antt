@@ -7,8 +7,8 @@ use mathlib.Core.List.{List, [], ◌∷◌, ◌++◌}
 use lib.ListN.{length, drop, length-append}
 use lib.Dec.{leb, ltb, eqb}
 use borrow.Author.Tests.{le-leb, eq-eqb, eqb-true}
-use Rattle.model.specs.declared.Quantity.{Quantity}
-use Rattle.model.specs.declared.Quantity.TheVariants.{Known, Unknown}
+use Rattle.model.specs.Number.{Quantity}
+use Rattle.std.specs.Prelude.{Some, None}
 use Rattle.model.specs.declared.Own.{Own}
 use Rattle.model.specs.declared.Neighbour.{Neighbour}
 use Rattle.model.specs.Number.{any_of, big_endian, first_of}
@@ -37,8 +37,8 @@ length-clear_each (x ∷ []) = refl
 length-clear_each (x ∷ y ∷ t) = rw (length-clear_each t)
 
 pub length-own_energy : (t : ℕ) (q : Quantity) → length (own_energy t q) ≡ 2
-length-own_energy t (Known e) = refl
-length-own_energy t Unknown = refl
+length-own_energy t (Some e) = refl
+length-own_energy t None = refl
 
 -- ---- bodies
 
@@ -62,20 +62,20 @@ subs4 n e =
 -- a scalar's sub-objects with the local value, if known, behind or before them
 behind2 : (b : List ℕ) (q : Quantity) → leb 2 (length b) && eqb ((length b - 0) % 2) 0 ≡ true
     → leb 2 (length (b ++ sub_object 2 q)) && eqb ((length (b ++ sub_object 2 q) - 0) % 2) 0 ≡ true
-behind2 b (Known v) e = rw (length-append b (big_endian 2 v), length-big_endian 2 v) (subs2 (length b) e)
-behind2 b Unknown e = let z : length (b ++ []) ≡ length b = length-append b [] ∙ omega arith in rw z e
+behind2 b (Some v) e = rw (length-append b (big_endian 2 v), length-big_endian 2 v) (subs2 (length b) e)
+behind2 b None e = let z : length (b ++ []) ≡ length b = length-append b [] ∙ omega arith in rw z e
 
 behind4 : (b : List ℕ) (q : Quantity) → leb 4 (length b) && eqb ((length b - 0) % 4) 0 ≡ true
     → leb 4 (length (b ++ sub_object 4 q)) && eqb ((length (b ++ sub_object 4 q) - 0) % 4) 0 ≡ true
-behind4 b (Known v) e = rw (length-append b (big_endian 4 v), length-big_endian 4 v) (subs4 (length b) e)
-behind4 b Unknown e = let z : length (b ++ []) ≡ length b = length-append b [] ∙ omega arith in rw z e
+behind4 b (Some v) e = rw (length-append b (big_endian 4 v), length-big_endian 4 v) (subs4 (length b) e)
+behind4 b None e = let z : length (b ++ []) ≡ length b = length-append b [] ∙ omega arith in rw z e
 
 before4 : (b : List ℕ) (q : Quantity) → leb 4 (length b) && eqb ((length b - 0) % 4) 0 ≡ true
     → leb 4 (length (sub_object 4 q ++ b)) && eqb ((length (sub_object 4 q ++ b) - 0) % 4) 0 ≡ true
-before4 b (Known v) e =
+before4 b (Some v) e =
     let z : length (big_endian 4 v ++ b) ≡ length b + 4 = length-append (big_endian 4 v) b ∙ rw (length-big_endian 4 v) (omega arith) in
     rw z (subs4 (length b) e)
-before4 b Unknown e = e
+before4 b None e = e
 
 -- recorded LQL: a byte, then at least one
 some_level : (v : ℕ) (t : List ℕ) → 1 ≤ length (count_level v t)

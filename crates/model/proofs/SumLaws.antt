@@ -6,8 +6,8 @@ use mathlib.Core.List.{List}
 use mathlib.Core.Option.{some}
 use lib.ListN.{length}
 use borrow.Author.Tests.{eq-eqb, ltb-false}
-use Rattle.model.specs.declared.Quantity.{Quantity}
-use Rattle.model.specs.declared.Quantity.TheVariants.{Known, Unknown}
+use Rattle.model.specs.Number.{Quantity}
+use Rattle.std.specs.Prelude.{Some, None}
 use Rattle.model.specs.declared.Own.{Own}
 use Rattle.model.specs.declared.Neighbour.{Neighbour}
 use Rattle.model.specs.declared.Candidate.{Candidate}
@@ -34,14 +34,14 @@ use Rattle.model.proofs.Exact.{leaves}
 -- ---- at an object that gives no leaf answer
 
 -- a sum with a value that is known where its bit is 1
-known_sum : (b x v y n : ℕ) → known_if b x ≡ Known v → n ≡ y + v → (b ≡ 1) × (n ≡ y + x)
+known_sum : (b x v y n : ℕ) → known_if b x ≡ Some v → n ≡ y + v → (b ≡ 1) × (n ≡ y + x)
 known_sum b x v y n e s = let (k, q) = known_is b x v e in (k, rw q s)
 
 module _ (own : Own) (c : Neighbour) (o : Object) (no_leaf : any_of (λ t. t o) (leaf_tests own c) ≡ false) (r : role o ≡ aggregated) (a : field_a o ≡ 0) where
   -- the link's value is known, and the number passed on is its sum with the one received
   record Whole (s : Scalar) : Type 0 where
     value : ℕ
-    is : link_value c s ≡ Known value
+    is : link_value c s ≡ Some value
     sum : number (update_object own c o).body ≡ number o.body + value
 
   whole : (s : Scalar) → must_fit s ≡ true → kind o ≡ scalar s → length o.body ≡ width_of s → Whole s
@@ -49,8 +49,8 @@ module _ (own : Own) (c : Neighbour) (o : Object) (no_leaf : any_of (λ t. t o) 
   whole s f k w = go (link_value c s) refl
     where
       go : (q : Quantity) → link_value c s ≡ q → Whole s
-      go Unknown e = absurd (true≢false (rw (r, k, e) at (none_at (λ t. t o) (leaf_tests own c) 2 (no_value own c) no_leaf refl)))
-      go (Known v) e =
+      go None e = absurd (true≢false (rw (r, k, e) at (none_at (λ t. t o) (leaf_tests own c) 2 (no_value own c) no_leaf refl)))
+      go (Some v) e =
           let n : overflows c o ≡ false = none_at (λ t. t o) (leaf_tests own c) 4 (overflows c) no_leaf refl in
           let h = ltb-false (most_of s) (number o.body + v) (rw (r, a, k, f, e, eq-eqb (length o.body) (width_of s) w) at n) in
           record { value = v; is = e; sum = ((no_sum_wraps own c o s v k r e w).add a).below h }

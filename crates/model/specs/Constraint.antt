@@ -1,7 +1,7 @@
 -- Bars 18 and 19: the constraints that a candidate does not meet.
 use Rattle.std.specs.Prelude.{ℕ, zero, suc, ◌+◌, ◌*◌, ◌/◌, ◌%◌, Bool, true, false, cond, not, ◌&&◌, ◌||◌, List, [], ◌∷◌, get_or, leb, ltb, eqb}
-use Rattle.model.specs.declared.Quantity.{Quantity}
-use Rattle.model.specs.declared.Quantity.TheVariants.{Known, Unknown}
+use Rattle.model.specs.Number.{Quantity}
+use Rattle.std.specs.Prelude.{Some, None}
 use Rattle.model.specs.declared.Summary.{Summary}
 use Rattle.model.specs.declared.Neighbour.{Neighbour}
 use Rattle.model.specs.Number.{is_set, known_if, satisfies, is_unknown, number, Case, ◌when◌, first_case}
@@ -40,7 +40,7 @@ counts_hops o = is_hp (kind o) && not (is_constraint (role o))
 
 -- the count of the HP metric
 abbrev pub hop_count : List Object → Quantity
-hop_count = from_first Unknown counts_hops (λ o. Known (get_or o.body 1 0))
+hop_count = from_first None counts_hops (λ o. Some (get_or o.body 1 0))
 
 -- an aggregated metric of a scalar type that is added up along the path (A=0)
 abbrev pub adds_up : Scalar → Object → Bool

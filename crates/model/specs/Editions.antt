@@ -1,6 +1,6 @@
 -- Editions 1 and 2: refusal 5, bar 11, what candidates are compared by; edition 1 reads nothing of what edition 2 added to a candidate.
 use Rattle.std.specs.Prelude.{◌≡◌, ℕ, ◌-◌, ◌/◌, ◌%◌, ◌≤◌, false, List, [], ◌∷◌, map, ◌↔◌, length}
-use Rattle.model.specs.declared.Quantity.{Quantity}
+use Rattle.model.specs.Number.{Quantity}
 use Rattle.model.specs.declared.Own.{Own}
 use Rattle.model.specs.declared.Neighbour.{Neighbour}
 use Rattle.model.specs.declared.Candidate.{Candidate}

@@ -1,7 +1,9 @@
 -- Numbers: known or not, big-endian fields, and the first of several numbered cases that holds.
-use Rattle.std.specs.Prelude.{ℕ, zero, suc, ◌+◌, ◌*◌, ◌/◌, ◌%◌, ◌^◌, Bool, true, false, cond, ◌||◌, List, [], ◌∷◌, eqb}
-use Rattle.model.specs.declared.Quantity.{Quantity}
-use Rattle.model.specs.declared.Quantity.TheVariants.{Known, Unknown}
+use Rattle.std.specs.Prelude.{ℕ, zero, suc, ◌+◌, ◌*◌, ◌/◌, ◌%◌, ◌^◌, Bool, true, false, cond, ◌||◌, List, [], ◌∷◌, eqb, Option, None, Some}
+
+-- a number that is known, or is not
+abbrev pub Quantity : Type 0
+Quantity = Option ℕ
 
 -- a bit that is 1
 abbrev pub is_set : ℕ → Bool
@@ -9,17 +11,17 @@ is_set b = eqb b 1
 
 -- a value that is known where its bit is 1
 abbrev pub known_if : (bit value : ℕ) → Quantity
-known_if b v = cond (is_set b) (Known v) Unknown
+known_if b v = cond (is_set b) (Some v) None
 
 -- a known number satisfies a test; an unknown one satisfies none
 abbrev pub satisfies : (ℕ → Bool) → Quantity → Bool
-satisfies f (Known v) = f v
-satisfies f Unknown = false
+satisfies f (Some v) = f v
+satisfies f None = false
 
 -- a number that is not known
 abbrev pub is_unknown : Quantity → Bool
-is_unknown (Known v) = false
-is_unknown Unknown = true
+is_unknown (Some v) = false
+is_unknown None = true
 
 -- the number that big-endian bytes hold, behind the number of those before them
 abbrev pub number_from : ℕ → List ℕ → ℕ

@@ -1,6 +1,6 @@
 -- The resulting rank (RFC 6552, section 4.1), and bars 20 and 21.
 use Rattle.std.specs.Prelude.{ℕ, ◌+◌, ◌*◌, ◌/◌, ◌%◌, Bool, not, ◌&&◌, ◌||◌, leb, ltb, eqb}
-use Rattle.model.specs.declared.Quantity.{Quantity}
+use Rattle.model.specs.Number.{Quantity}
 use Rattle.model.specs.declared.Rank.{Rank}
 use Rattle.model.specs.declared.Units.{Units}
 use Rattle.model.specs.declared.Own.{Own}

@@ -2,7 +2,7 @@
 use Rattle.std.specs.Prelude.{◌≡◌, eqb, Bool, cond, not, ◌&&◌, ◌||◌, ◌/◌, ◌%◌, ℕ, ◌+◌, ◌≤◌, ◌<◌, min, max, List, map, length, get_or}
 use Rattle.std.proofs.Math.Option.{some}
 use Rattle.std.proofs.Math.ListN.{get_elem?}
-use Rattle.model.specs.declared.Quantity.TheVariants.{Known}
+use Rattle.std.specs.Prelude.{Some}
 use Rattle.model.specs.declared.Own.{Own}
 use Rattle.model.specs.declared.Neighbour.{Neighbour}
 use Rattle.model.specs.declared.Candidate.{Candidate}
@@ -59,7 +59,7 @@ pub record Aggregates (own : Own) (c : Neighbour) (o : Object) (s : Scalar) (v :
 
 -- of every aggregated scalar metric
 abbrev pub NoSumWraps : Type 0
-NoSumWraps = (own : Own) (c : Neighbour) (o : Object) (s : Scalar) (v : ℕ) → kind o ≡ scalar s → role o ≡ aggregated → link_value c s ≡ Known v
+NoSumWraps = (own : Own) (c : Neighbour) (o : Object) (s : Scalar) (v : ℕ) → kind o ≡ scalar s → role o ≡ aggregated → link_value c s ≡ Some v
     → length o.body ≡ width_of s → Aggregates own c o s v
 
 -- a throughput (type 4) or latency (type 5) metric as received and as passed on: the whole-number sum with the link's value, which is known
@@ -107,7 +107,7 @@ pub record Whole (container : List ℕ) (o : Object) : Type 0 where
   pub nodes : 1 ≤ o.type → o.type ≤ 3 → 2 ≤ length o.body
   pub scalars : (s : Scalar) → kind o ≡ scalar s → length o.body ≡ width_of s
   pub received : (s : Scalar) → kind o ≡ scalar s → Bytes container → number o.body ≤ most_of s
-  pub link : (s : Scalar) (c : Neighbour) (v : ℕ) → LinkWithin c → link_value c s ≡ Known v → v ≤ most_of s
+  pub link : (s : Scalar) (c : Neighbour) (v : ℕ) → LinkWithin c → link_value c s ≡ Some v → v ≤ most_of s
 
 -- of every aggregated metric of a well-formed container
 abbrev pub AggregatesWhole : Type 0

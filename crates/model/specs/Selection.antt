@@ -3,7 +3,7 @@ use Rattle.std.specs.Prelude.{◌≡◌, ℕ, ◌+◌, ◌/◌, ◌%◌, ◌^◌
 use Rattle.std.proofs.Math.Option.{some}
 use Rattle.std.proofs.Math.ListN.{get_elem?}
 use Rattle.std.specs.Int.Count.{ones}
-use Rattle.model.specs.declared.Quantity.TheVariants.{Known}
+use Rattle.std.specs.Prelude.{Some}
 use Rattle.model.specs.declared.Own.{Own}
 use Rattle.model.specs.declared.Neighbour.{Neighbour}
 use Rattle.model.specs.declared.Candidate.{Candidate}
@@ -53,9 +53,9 @@ pub record PreferredParent (own : Own) (cs : List Candidate) (lent : List ℕ) (
       → a.rank.0 ≤ resulting own d.neighbour
   -- a tie goes to the current parent if it is among them, then to the lower position
   pub tie_current : (i : ℕ) (d : Candidate) → get_elem? cs i ≡ some d → barred_by_nothing own lent d ≡ true → Level own candidate.neighbour d.neighbour
-      → resulting own d.neighbour ≡ a.rank.0 → current_of own ≡ Known i → a.parent ≡ i
+      → resulting own d.neighbour ≡ a.rank.0 → current_of own ≡ Some i → a.parent ≡ i
   pub tie_position : (i : ℕ) (d : Candidate) → get_elem? cs i ≡ some d → barred_by_nothing own lent d ≡ true → Level own candidate.neighbour d.neighbour
-      → resulting own d.neighbour ≡ a.rank.0 → (current_of own ≡ Known a.parent → ⊥) → a.parent ≤ i
+      → resulting own d.neighbour ≡ a.rank.0 → (current_of own ≡ Some a.parent → ⊥) → a.parent ≤ i
 
 -- what a call reports that is not refused
 pub record Selection (own : Own) (cs : List Candidate) (lent : List ℕ) (a : Answer) : Type 0 where

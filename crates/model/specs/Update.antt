@@ -1,7 +1,7 @@
 -- Leaf answers 31 to 36, and the objects updated for this hop.
 use Rattle.std.specs.Prelude.{ℕ, zero, suc, ◌+◌, ◌-◌, ◌*◌, ◌/◌, ◌%◌, ◌^◌, min, max, Bool, true, false, cond, not, ◌&&◌, ◌||◌, List, [], ◌∷◌, ◌++◌, map, length, get_or, ltb, eqb}
-use Rattle.model.specs.declared.Quantity.{Quantity}
-use Rattle.model.specs.declared.Quantity.TheVariants.{Known, Unknown}
+use Rattle.model.specs.Number.{Quantity}
+use Rattle.std.specs.Prelude.{Some, None}
 use Rattle.model.specs.declared.Own.{Own}
 use Rattle.model.specs.declared.Neighbour.{Neighbour}
 use Rattle.model.specs.Number.{is_set, satisfies, is_unknown, number, big_endian, Case, ◌when◌, first_case, first, first_of}
@@ -14,18 +14,18 @@ use Rattle.model.specs.Constraint.{energy_in, link_value, colour_in}
 
 -- what this hop puts into a metric: node metrics use own values, link metrics the link's. NSA's two flags stand as in its body
 unfoldable pub local_value : Own → Neighbour → Kind → Quantity
-local_value own c unknown = Unknown
-local_value own c (node nsa) = Known (own.flags % 4)
+local_value own c unknown = None
+local_value own c (node nsa) = Some (own.flags % 4)
 local_value own c (node ne) = energy_in own.flags own.energy
-local_value own c (node hp) = Known 1
+local_value own c (node hp) = Some 1
 local_value own c (scalar s) = link_value c s
-local_value own c lql = Known c.lql
-local_value own c colour = Known c.colour
+local_value own c lql = Some c.lql
+local_value own c colour = Some c.colour
 
 -- a known value; an unknown one is asked for nowhere, since leaf answer 33 comes first
 abbrev pub value_or_0 : Quantity → ℕ
-value_or_0 (Known v) = v
-value_or_0 Unknown = 0
+value_or_0 (Some v) = v
+value_or_0 None = 0
 
 -- ---- aggregated metrics
 
@@ -101,8 +101,8 @@ constraint_body (scalar s) b = b
 
 -- the local value as a sub-object, where it is known
 abbrev pub sub_object : (width : ℕ) → Quantity → List ℕ
-sub_object w (Known v) = big_endian w v
-sub_object w Unknown = []
+sub_object w (Some v) = big_endian w v
+sub_object w None = []
 
 -- recorded NE: the upper four bits of every flags byte cleared
 abbrev pub clear_each : List ℕ → List ℕ
@@ -112,8 +112,8 @@ clear_each (x ∷ y ∷ t) = x % 16 ∷ y ∷ clear_each t
 
 -- NE's sub-object of this node: own type, I=0, E and E_E (both 0 if unknown)
 abbrev pub own_energy : (nodetype : ℕ) → Quantity → List ℕ
-own_energy t (Known e) = (t * 2 + 1) ∷ e ∷ []
-own_energy t Unknown = t * 2 ∷ 0 ∷ []
+own_energy t (Some e) = (t * 2 + 1) ∷ e ∷ []
+own_energy t None = t * 2 ∷ 0 ∷ []
 
 -- a body with its reserved byte cleared, and the sub-objects behind it changed
 abbrev pub behind_reserved : (List ℕ → List ℕ) → List ℕ → List ℕ

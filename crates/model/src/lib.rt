@@ -4,19 +4,12 @@
 
 // A rank (RFC 6550): 65535 is the infinite rank, by which a node says that it has no route.
 #[repr(C)]
-#[derive(Clone, Copy)]
+#[derive(Clone, Copy, PartialEq, Eq, PartialOrd, Ord)]
 pub struct Rank(pub u16);
 
 // A number of rank units: one unit is one MinHopRankIncrease.
 #[derive(Clone, Copy)]
 pub struct Units(pub u32);
-
-// A number that is known, or is not.
-#[derive(Clone, Copy)]
-pub enum Quantity {
-    Known(u32),
-    Unknown,
-}
 
 // The node's own numbers. Flags: 0x01 overloaded, 0x02 aggregator, 0x04 energy is known, 0x08 lowest is given, 0x10 current is given.
 #[repr(C)]
@@ -67,7 +60,7 @@ pub struct Neighbour {
 }
 
 // What an unbarred candidate is compared by, the lower the better.
-#[derive(Clone, Copy)]
+#[derive(Clone, Copy, PartialEq, Eq, PartialOrd, Ord)]
 pub struct Offer {
     // what edition 2 compares before the rank, as digits: the interface's order times 16, 8 where its DODAG is not grounded, and how far
     // its root's preference is below 7; in edition 1 it is 0
@@ -97,7 +90,7 @@ pub struct Candidates {
 // metric adds them up along the path, else 0.
 #[derive(Clone, Copy)]
 pub struct Summary {
-    pub hops: Quantity,
+    pub hops: Option<u32>,
     pub latency: u32,
     pub etx: u16,
 }

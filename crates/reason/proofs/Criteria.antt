@@ -9,7 +9,7 @@ use mathlib.Core.Option.{some}
 use lib.ListN.{length, get_or, get_elem?, replicate, get_or-eq_default}
 use lib.Dec.{leb, eqb}
 use borrow.Author.Tests.{eqb-true, leb-true, leb-false}
-use Rattle.model.specs.declared.Quantity.TheVariants.{Known}
+use Rattle.std.specs.Prelude.{Some}
 use Rattle.model.specs.declared.Own.{Own}
 use Rattle.model.specs.declared.Neighbour.{Neighbour}
 use Rattle.model.specs.declared.Candidate.{Candidate}
@@ -61,7 +61,7 @@ module _ (own : Own) (p : ℕ) (c : Neighbour) (b : ℕ) (d : Neighbour) (k v a 
         let l : resulting own d < resulting own c = rw e at decides.lower in
         (x, y, omega arith)
 
-    by_current : k ≡ 5 → (v ≡ 0) × (a ≡ 1) × (current_of own ≡ Known b)
+    by_current : k ≡ 5 → (v ≡ 0) × (a ≡ 1) × (current_of own ≡ Some b)
     by_current e =
         let x : v ≡ 1 - not_current (current_of own) p = rw e at value in
         let y : a ≡ 1 - not_current (current_of own) b = rw e at against in

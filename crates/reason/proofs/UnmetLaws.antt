@@ -8,8 +8,8 @@ use mathlib.Core.Option.{some}
 use lib.ListN.{get_or, get_elem?}
 use lib.Dec.{leb, ltb, eqb}
 use borrow.Author.Tests.{ltb-false, leb-false, lt-ltb, le-leb, eqb-false, not-true, not-false}
-use Rattle.model.specs.declared.Quantity.{Quantity}
-use Rattle.model.specs.declared.Quantity.TheVariants.{Known, Unknown}
+use Rattle.model.specs.Number.{Quantity}
+use Rattle.std.specs.Prelude.{Some, None}
 use Rattle.model.specs.declared.Summary.{Summary}
 use Rattle.model.specs.declared.Neighbour.{Neighbour}
 use Rattle.model.specs.Number.{is_set, known_if, satisfies, number, first_of}
@@ -101,8 +101,8 @@ module _ (c : Neighbour) (s : Summary) (b : List ℕ) where
   hops_right limit h = go s.hops refl h
     where
       go : (q : Quantity) → s.hops ≡ q → satisfies (λ v. ltb v limit) q ≡ false → Right (hops_finding q limit)
-      go (Known v) e h = (not_below v limit h, refl)
-      go Unknown e h = (refl, rw e)
+      go (Some v) e h = (not_below v limit h, refl)
+      go None e h = (refl, rw e)
 
   -- throughput
   throughput_right : (n : ℕ) → satisfies (λ v. leb n v) (link_value c throughput) ≡ false → Right (throughput_finding c n)

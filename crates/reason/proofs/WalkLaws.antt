@@ -7,8 +7,8 @@ use mathlib.Core.List.{List, [], ◌∷◌, ◌++◌}
 use mathlib.Core.Option.{none, some, none-ne-some}
 use lib.ListN.{length, get_or, get_elem?, take, drop, length-append}
 use borrow.Author.Tests.{ne_eqb}
-use Rattle.model.specs.declared.Quantity.{Quantity}
-use Rattle.model.specs.declared.Quantity.TheVariants.{Known, Unknown}
+use Rattle.model.specs.Number.{Quantity}
+use Rattle.std.specs.Prelude.{Some, None}
 use Rattle.model.specs.declared.Neighbour.{Neighbour}
 use Rattle.model.specs.Object.{Object}
 use Rattle.model.specs.Reading as model
@@ -83,8 +83,8 @@ module _ (run : List ℕ) (end : ℕ) (p : Cursor) (place left : ℕ) (w : Seeks
 -- the count of hops, as one number
 hops_told_lem : (q : Quantity) (limit : ℕ) → hops_told (hops_of q) limit ≡ hops_finding q limit
 unfolding hops_told
-hops_told_lem (Known v) limit = let z : suc v - 1 ≡ v = omega arith in rw (ne_eqb (suc v) 0 (λ e. omega arith), z)
-hops_told_lem Unknown limit = refl
+hops_told_lem (Some v) limit = let z : suc v - 1 ≡ v = omega arith in rw (ne_eqb (suc v) 0 (λ e. omega arith), z)
+hops_told_lem None limit = refl
 
 -- by what code has of an object
 asked_told : (c : Neighbour) (told : Told) (os : List Object) (o : Object) → told ≡ told_of (summary os)

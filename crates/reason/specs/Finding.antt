@@ -2,8 +2,8 @@
 use Rattle.std.specs.Prelude.{ℕ, zero, suc, ◌+◌, ◌-◌, ◌/◌, ◌%◌, cond, not, ◌&&◌, ◌||◌, List, [], ◌∷◌, length, drop, get_or, ltb, eqb}
 use Rattle.std.proofs.Math.Option.{Option, none, some}
 use Rattle.std.proofs.Math.ListN.{get_elem?}
-use Rattle.model.specs.declared.Quantity.{Quantity}
-use Rattle.model.specs.declared.Quantity.TheVariants.{Known, Unknown}
+use Rattle.model.specs.Number.{Quantity}
+use Rattle.std.specs.Prelude.{Some, None}
 use Rattle.model.specs.declared.Summary.{Summary}
 use Rattle.model.specs.declared.Own.{Own}
 use Rattle.model.specs.declared.Neighbour.{Neighbour}
@@ -120,8 +120,8 @@ ne_finding c f limit =
 
 -- HP: the count of the run's HP metric
 abbrev pub hops_finding : Quantity → (limit : ℕ) → Finding
-hops_finding (Known v) limit = finding 23 0 limit v
-hops_finding Unknown limit = finding 24 0 limit 0
+hops_finding (Some v) limit = finding 23 0 limit v
+hops_finding None limit = finding 24 0 limit 0
 
 -- inside the crate: the same by one number, one more than the count, 0 for none
 unfoldable pub hops_told : (hops limit : ℕ) → Finding

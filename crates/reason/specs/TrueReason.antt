@@ -2,7 +2,7 @@
 use Rattle.std.specs.Prelude.{◌≡◌, ℕ, suc, ◌/◌, ◌%◌, ◌≤◌, ◌<◌, true, List, [], ◌∷◌, ◌↔◌, length, get_or, leb}
 use Rattle.std.proofs.Math.Option.{some}
 use Rattle.std.proofs.Math.ListN.{get_elem?}
-use Rattle.model.specs.declared.Quantity.TheVariants.{Known}
+use Rattle.std.specs.Prelude.{Some}
 use Rattle.model.specs.declared.Own.{Own}
 use Rattle.model.specs.declared.Neighbour.{Neighbour}
 use Rattle.model.specs.declared.Candidate.{Candidate}
@@ -78,7 +78,7 @@ pub record OnCriterion (own : Own) (p : ℕ) (c : Neighbour) (b : ℕ) (d : Neig
   pub on_grounded : k ≡ 2 → (v ≡ c.flags / 64 % 2) × (a ≡ d.flags / 64 % 2) × (v < a)
   pub on_preference : k ≡ 3 → (v ≡ c.preference) × (a ≡ d.preference) × (v < a)
   pub on_rank : k ≡ 4 → (v ≡ resulting own c) × (a ≡ resulting own d) × (a < v)
-  pub on_current : k ≡ 5 → (v ≡ 0) × (a ≡ 1) × (current_of own ≡ Known b)
+  pub on_current : k ≡ 5 → (v ≡ 0) × (a ≡ 1) × (current_of own ≡ Some b)
   pub on_position : k ≡ 6 → (v ≡ p) × (a ≡ b) × (b < p)
 
 -- of every candidate that is beaten

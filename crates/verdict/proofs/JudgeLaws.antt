@@ -10,8 +10,8 @@ use borrow.Author.Tests.{lt-ltb, le-ltb}
 use Rattle.model.specs.declared.Own.{Own}
 use Rattle.model.specs.declared.Neighbour.{Neighbour}
 use Rattle.model.specs.declared.Candidate.{Candidate}
-use Rattle.model.specs.declared.Quantity.{Quantity}
-use Rattle.model.specs.declared.Quantity.TheVariants.{Known, Unknown}
+use Rattle.model.specs.Number.{Quantity}
+use Rattle.std.specs.Prelude.{Some, None}
 use Rattle.model.specs.declared.Summary.{Summary}
 use Rattle.model.specs.declared.Verdict.TheVariants.{Barred}
 use Rattle.model.specs.Number.{any_of, first_of}
@@ -53,10 +53,10 @@ summary_by s s' e =
     same
   where
     go : (x y : Quantity) → hops_of x ≡ hops_of y → x ≡ y
-    go (Known v) (Known w) e = let z : v ≡ w = omega arith in rw z
-    go (Known v) Unknown e = absurd (omega arith)
-    go Unknown (Known w) e = absurd (omega arith)
-    go Unknown Unknown e = refl
+    go (Some v) (Some w) e = let z : v ≡ w = omega arith in rw z
+    go (Some v) None e = absurd (omega arith)
+    go None (Some w) e = absurd (omega arith)
+    go None None e = refl
 
 -- what is told, by its count
 pub told_with : (t : Told) (n : ℕ) → t.hops ≡ n → record { hops = n; latency = t.latency; etx = t.etx } ≡ t

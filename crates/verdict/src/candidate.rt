@@ -9,7 +9,7 @@ ghost use Rattle.wire.specs.Reading.{told_of};
 ghost use Rattle.verdict.specs.Judged.{WellFormed, ReadAs, BarsFirst};
 
 use crate::{ahead, constraints, rank};
-use model::{Candidate, Neighbour, Own, Quantity, Summary, Verdict};
+use model::{Candidate, Neighbour, Own, Summary, Verdict};
 use wire::{Entry, Reading, Step, Told};
 
 // The first object with bar 18 or 19: the number and its index. Number 0 for none.
@@ -101,13 +101,13 @@ fn summary_of(told: Told) -> Summary
 {
     if told.hops == 0 {
         return Summary {
-            hops: Quantity::Unknown,
+            hops: None,
             latency: told.latency,
             etx: told.etx,
         };
     }
     Summary {
-        hops: Quantity::Known((told.hops - 1) as u32),
+        hops: Some((told.hops - 1) as u32),
         latency: told.latency,
         etx: told.etx,
     }

@@ -8,7 +8,7 @@ ghost use Rattle.model.specs.Constraint.{is_aggregator, is_overloaded, energy_in
 ghost use Rattle.wire.specs.Step.{object_of};
 ghost use Rattle.verdict.specs.Judged.{Tabled, bar_holds};
 
-use model::{Neighbour, Quantity, Summary};
+use model::{Neighbour, Summary};
 use wire::Header;
 
 // Whether an object is a mandatory constraint.
@@ -45,8 +45,8 @@ fn meets_hp(summary: Summary, limit: u8) -> bool
 {
     let hops = summary.hops;
     match hops {
-        Quantity::Known(count) => count < limit as u32,
-        Quantity::Unknown => false,
+        Some(count) => count < limit as u32,
+        None => false,
     }
 }
 

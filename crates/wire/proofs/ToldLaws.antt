@@ -6,7 +6,7 @@ use mathlib.Core.List.{List, [], ◌∷◌, ◌++◌}
 use lib.ListN.{get_or}
 use lib.Dec.{eqb}
 use borrow.Author.Tests.{eq-eqb}
-use Rattle.model.specs.declared.Quantity.TheVariants.{Known, Unknown}
+use Rattle.std.specs.Prelude.{Some, None}
 use Rattle.model.specs.Number.{any_of, number}
 use Rattle.model.specs.Object.{Object, field_a, Scalar, latency, etx, type_of, kind_of, known, kind, constraint, recorded, aggregated, role, is_aggregated, is_hp}
 use Rattle.model.specs.Table.{row}
@@ -30,7 +30,7 @@ module _ (es : List Object) (o : Object) where
   silent_same : counts_hops o ≡ false → adds_up latency o ≡ false → adds_up etx o ≡ false → told_of (summary es) ≡ told_of (summary (es ++ (o ∷ [])))
   silent_same h l x =
       rw (
-        from_same Unknown counts_hops (λ o. Known (get_or o.body 1 0)) es o h,
+        from_same None counts_hops (λ o. Some (get_or o.body 1 0)) es o h,
         from_same 0 (adds_up latency) (λ o. number o.body) es o l,
         from_same 0 (adds_up etx) (λ o. number o.body) es o x,
       )
@@ -56,13 +56,13 @@ module _ (es : List Object) (o : Object) where
         h,
         l,
         x,
-        from_snoc Unknown 3 counts_hops (λ o. Known (get_or o.body 1 0)) hops_use es o f,
+        from_snoc None 3 counts_hops (λ o. Some (get_or o.body 1 0)) hops_use es o f,
         from_snoc 0 5 (adds_up latency) (λ o. number o.body) (adds_use latency) es o f,
         from_snoc 0 7 (adds_up etx) (λ o. number o.body) (adds_use etx) es o f,
         pushed (counts_hops o),
       )
     where
-      pushed : (b : Bool) → hops_of (cond b (Known (get_or o.body 1 0)) (hop_count es)) ≡ cond b (suc (get_or o.body 1 0)) (hops_of (hop_count es))
+      pushed : (b : Bool) → hops_of (cond b (Some (get_or o.body 1 0)) (hop_count es)) ≡ cond b (suc (get_or o.body 1 0)) (hops_of (hop_count es))
       pushed true = refl
       pushed false = refl
 

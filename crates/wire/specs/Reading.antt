@@ -1,7 +1,7 @@
 -- A container that is read, in the enum of code: document 01's number and values for each case.
 use Rattle.std.specs.Prelude.{ℕ, suc, length}
-use Rattle.model.specs.declared.Quantity.{Quantity}
-use Rattle.model.specs.declared.Quantity.TheVariants.{Known, Unknown}
+use Rattle.model.specs.Number.{Quantity}
+use Rattle.std.specs.Prelude.{Some, None}
 use Rattle.model.specs.declared.Summary.{Summary}
 use Rattle.model.specs.Number.{any_of}
 use Rattle.model.specs.Reading as model
@@ -12,8 +12,8 @@ use Rattle.wire.specs.declared.container.Reading.TheVariants.{Refused, WellForme
 
 -- the count of an HP metric as one number: one more than the count, 0 for none
 abbrev pub hops_of : Quantity → ℕ
-hops_of (Known v) = suc v
-hops_of Unknown = 0
+hops_of (Some v) = suc v
+hops_of None = 0
 
 -- what a container tells the tests of its constraints, the count as one number
 abbrev pub told_of : Summary → Told

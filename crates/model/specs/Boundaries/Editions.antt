@@ -1,6 +1,6 @@
 -- Editions 1 and 2 (RFC 6552, section 4.2.1, as far as there are fields), on each side of each boundary.
 use Rattle.std.specs.Prelude.{ℕ, List, [], ◌∷◌, ◌++◌, map, replicate}
-use Rattle.model.specs.declared.Quantity.TheVariants.{Unknown}
+use Rattle.std.specs.Prelude.{None}
 use Rattle.model.specs.declared.Own.{Own}
 use Rattle.model.specs.declared.Candidate.{Candidate}
 use Rattle.model.specs.Samples.{Example, ◌gives◌, own_as, own_in, sited, empty, candidate, Calling, calling, single, result_of, verdict_of, Outcome, nobody, chosen}
@@ -80,7 +80,7 @@ earlier =
 
 -- the criteria of such a candidate of rank 256, at position 3 without a current parent, in edition 1 and in edition 2
 abbrev pub site_criteria : Site → List (List ℕ)
-site_criteria s = map (λ e. criteria Unknown 3 (offer_of (own_in e 0x00 0) (sited s.order s.flags s.preference 256))) (1 ∷ 2 ∷ [])
+site_criteria s = map (λ e. criteria None 3 (offer_of (own_in e 0x00 0) (sited s.order s.flags s.preference 256))) (1 ∷ 2 ∷ [])
 
 abbrev pub compared : List (Example Site (List (List ℕ)))
 compared =

@@ -6,9 +6,9 @@ use Rattle.metric.proofs.leaves.is_beyond.Goals as goal
 pub returns-then-mctype : goal.returns-then-mctype
 returns-then-mctype c = beyond_other _ _ _ c.if-mctype.true
 
-pub returns-in-Known : goal.returns-in-Known
-returns-in-Known c =
-    let match_is = c.in-Known.is in
+pub returns-in-Some : goal.returns-in-Some
+returns-in-Some c =
+    let match_is = c.in-Some.is in
     let link-is = c.link_value.ensures in
     c.is_over.ensures ∙ rw (c.add.ensures, c.number_4.ensures)
     (beyond_known _ _ _ _ c.if-mctype.false (sym link-is ∙ match_is) (search rules))
