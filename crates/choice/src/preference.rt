@@ -1,6 +1,6 @@
 // The choice of a preferred parent.
 ghost use Rattle.std.specs.Prelude.{◌≡◌};
-ghost use Rattle.model.specs.declared.Verdict.TheVariants.{Unbarred};
+ghost use Rattle.model.specs.Verdict.{Unbarred};
 ghost use Rattle.model.specs.Choice.{current_of, not_current, criteria, precedes, after_verdict};
 
 use model::{Choice, Offer, Own};

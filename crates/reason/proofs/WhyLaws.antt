@@ -12,9 +12,9 @@ use lib.Dec.{leb, ltb, eqb}
 use borrow.Author.Tests.{eq-eqb, ne_eqb, lt-ltb, le-ltb, le-leb, lt-leb, eqb-true, eqb-false, ltb-true, ltb-false, leb-false}
 use Rattle.model.specs.declared.Own.{Own}
 use Rattle.model.specs.declared.Candidate.{Candidate}
-use Rattle.model.specs.declared.Verdict.{Verdict}
-use Rattle.model.specs.declared.Choice.{Choice}
-use Rattle.model.specs.declared.Choice.TheVariants.{Nobody}
+use Rattle.model.specs.Verdict.{Verdict}
+use Rattle.model.specs.Choice.{Choice}
+use Rattle.model.specs.Choice.{Nobody}
 use Rattle.model.specs.Number.{◌when◌, first_case}
 use Rattle.model.specs.Verdict.{verdict}
 use Rattle.model.specs.Choice.{bad_own, too_many, current_past, bad_edition, refusal, current_of, after_verdict, choose_from, choice_of}

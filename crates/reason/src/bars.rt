@@ -1,6 +1,6 @@
 // What was asked of a candidate that is barred, and what was found, by the number that bars it.
 ghost use Rattle.std.specs.Prelude.{◌≡◌, false};
-ghost use Rattle.model.specs.declared.Verdict.TheVariants.{Barred};
+ghost use Rattle.model.specs.Verdict.{Barred};
 ghost use Rattle.model.specs.Run.{option_cut};
 ghost use Rattle.model.specs.Verdict.{verdict};
 ghost use Rattle.reason.specs.Finding.{run_finding, bar_finding, finding_of};

@@ -1,4 +1,5 @@
 pub mod Number
+pub mod MetricType
 pub mod Step
 pub mod Entry
 pub mod Start

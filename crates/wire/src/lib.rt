@@ -7,6 +7,7 @@ mod bodies;
 mod container;
 mod gathered;
 mod mandatory;
+mod metric_type;
 mod numbers;
 mod objects;
 mod options;
@@ -14,6 +15,7 @@ mod seen;
 mod table;
 
 pub use container::{Reading, Told, read, read_run};
+pub use metric_type::MetricType;
 pub use numbers::{number_2, number_4};
 pub use objects::{Cursor, Header, Step, first, is_constraint, is_recorded, next};
 pub use options::{Entry, Start, enter, start_of};

@@ -3,7 +3,7 @@ use Prim.Native.Nat.{◌+◌, ◌-◌, ◌≤◌, ◌<◌}
 use native.Mathlib.Omega.{arith}
 use borrow.Author.Rules.{rules}
 use lib.ListN.{length, get_or, take}
-use Rattle.model.specs.declared.Choice.TheVariants.{Parent}
+use Rattle.model.specs.Choice.{Parent}
 use Rattle.model.specs.Choice.{choice_of}
 use Rattle.choice.specs.Given.{blank}
 use Rattle.choice.proofs.PassLaws.{Pass, gathered_none, pass_barred, pass_unbarred, pass_end}

@@ -2,7 +2,7 @@ use Prim.Native.Nat.{◌-◌}
 use mathlib.Core.Path.{sym, ◌∙◌}
 use native.Mathlib.Omega.{arith}
 use borrow.Author.Rules.{rules}
-use Rattle.model.specs.declared.Verdict.TheVariants.{Barred}
+use Rattle.model.specs.Verdict.{Barred}
 use Rattle.model.specs.Reading.{no_place}
 use Rattle.choice.specs.Given.{blank}
 use Rattle.reason.proofs.WhyLaws.{Asks, asks_first, asks_more, asks_end, asked_within, refused_answer_lem, told_answer}
