@@ -14,7 +14,7 @@ use Rattle.model.specs.Reading.{no_place, is_none, misframed, refused, read_obje
 use Rattle.model.specs.Cut.{keep_if}
 use Rattle.model.specs.Run.{RplOption, leading, options_up_to, options, containers, objects_of, options_in, joined_objects, ninth_container, run_objects, read_run}
 use Rattle.model.proofs.RunLaws.{framed_clear}
-use Rattle.wire.specs.declared.container.Reading.TheVariants.{Refused}
+use Rattle.wire.specs.Reading.{Refused}
 use Rattle.wire.specs.Entry.{option_size, behind_by}
 use Rattle.wire.specs.Frame.{ninth_bar, frame_from, frame_bar}
 use Rattle.wire.specs.Reading.{reading_of}

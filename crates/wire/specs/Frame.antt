@@ -1,5 +1,7 @@
 -- Inside the crate: the bars of a run by its options alone.
-use Rattle.std.specs.Prelude.{ℕ, ◌+◌, cond, List, length, ltb}
+use Rattle.std.specs.Prelude.{◌≡◌, ℕ, ◌+◌, cond, List, length, ltb, Result, Ok, Err}
+use Rattle.model.specs.declared.verdicts.Bar.{Bar}
+use Rattle.model.specs.Bars.{bar_number}
 use Rattle.std.proofs.Math.Option.{Option, none, some}
 use Rattle.model.specs.Run.{RplOption, options, containers}
 
@@ -15,3 +17,8 @@ frame_from k (some os) = ninth_bar (k + length (containers os))
 -- bar 22 or 23 of a run; 0 for neither
 unfoldable pub frame_bar : List ℕ → ℕ
 frame_bar bs = frame_from 0 (options bs)
+
+-- the number of a bar in the Result of code; 0 for none
+abbrev pub frame_in : Result Unit Bar → ℕ
+frame_in (Ok u) = 0
+frame_in (Err b) = bar_number b

@@ -1,6 +1,8 @@
 pub mod Number
 pub mod MetricType
 pub mod Step
+pub mod Front
+pub mod Options
 pub mod Entry
 pub mod Start
 pub mod Frame

@@ -1,62 +1,52 @@
-// Bars 15 to 17 at an object of known type, by its role and the uses seen before it.
-ghost use Rattle.std.specs.Prelude.{◌≡◌, true, false, cond, []};
-ghost use Rattle.model.specs.Object.{kind_of, known, role_of, is_recorded, recorded, aggregated};
-ghost use Rattle.model.specs.Table.{row};
-ghost use Rattle.model.specs.Reading.{cannot_be};
+// Bars 15 to 17 at an object, by its role and the uses seen before it. Each role has its own way through them, so that an object
+// meets no test of another one.
+ghost use Rattle.std.specs.Prelude.{◌≡◌, true, cond, []};
+ghost use Rattle.model.specs.Object.{kind_of, known};
 ghost use Rattle.wire.specs.Step.{object_of};
-ghost use Rattle.wire.specs.Seen.{has_use, bar_by};
+ghost use Rattle.wire.specs.Front.{seen};
+ghost use Rattle.wire.specs.Seen.{has_use, bar_by, bar_in};
 
-use crate::objects::Header;
-use crate::{bodies, seen, table};
+use crate::bodies;
+use crate::objects::Object;
+use crate::seen::Uses;
+use model::ObjectBar;
 
-// 16 for an object whose use was seen, else another number.
-fn repeat_or(seen: u32, header: Header, number: u8) -> u8
-    ensures { result ≡ cond (has_use seen (object_of header [])) 16 number }
+// 16 at an object whose use was seen.
+#[inline(always)]
+fn check_use(uses: Uses, object: Object) -> Result<(), ObjectBar>
+    ensures { bar_in result ≡ cond (has_use uses.0 (object_of object.entry.header [])) 16 0 }
 {
-    if seen::has(seen, header) {
-        return 16;
+    if uses.has(object.header) {
+        return Err(ObjectBar::Repeat);
     }
-    number
+    Ok(())
 }
 
-// The lower of 15 and 16 at a constraint, or at an aggregated metric that its type can be; 0 for none.
-pub(crate) fn fixed_bar(header: Header, body: &[u8], seen: u32) -> u8
-    requires mctype_value { known (kind_of header.mctype) ≡ true }
-    requires mode_value { is_recorded (role_of header.flags header.mode) ≡ false }
-    requires mctype_value_2 { cannot_be (role_of header.flags header.mode) (row (kind_of header.mctype)) ≡ false }
-    ensures { result ≡ bar_by (has_use seen (object_of header [])) (object_of header body.now) }
+// The lowest of 15, 16 and 17 at an object of known type; the shape of its body is not asked for where 17 holds.
+#[inline(always)]
+pub(crate) fn check(uses: Uses, object: Object) -> Result<(), ObjectBar>
+    requires { known (kind_of object.header.mctype) ≡ true }
+    ensures { bar_in result ≡ bar_by (has_use uses.0 (object_of object.entry.header [])) (seen object.entry) }
 {
-    if !bodies::is_fixed(header.mctype, body) {
-        return 15;
+    let header = object.header;
+    let metric_type = header.metric_type();
+    let row = metric_type.row();
+    if header.is_recorded() {
+        if !row.records {
+            check_use(uses, object)?;
+            return Err(ObjectBar::Recorded);
+        }
+        if !bodies::is_series(metric_type, object.body) {
+            return Err(ObjectBar::Body);
+        }
+        return check_use(uses, object);
     }
-    repeat_or(seen, header, 0)
-}
-
-// The lowest of 15, 16 and 17 at an aggregated metric; 0 for none.
-pub(crate) fn aggregated_bar(header: Header, body: &[u8], seen: u32) -> u8
-    requires mctype_value { known (kind_of header.mctype) ≡ true }
-    requires mode_value { role_of header.flags header.mode ≡ aggregated }
-    ensures { result ≡ bar_by (has_use seen (object_of header [])) (object_of header body.now) }
-{
-    let row = table::row_of(header.mctype);
-    if row.allows == 0 {
-        return repeat_or(seen, header, 17);
+    if !header.is_constraint() && row.allows == 0 {
+        check_use(uses, object)?;
+        return Err(ObjectBar::Recorded);
     }
-    fixed_bar(header, body, seen)
-}
-
-// The lowest of 15, 16 and 17 at a recorded metric; 0 for none.
-pub(crate) fn recorded_bar(header: Header, body: &[u8], seen: u32) -> u8
-    requires mctype_value { known (kind_of header.mctype) ≡ true }
-    requires mode_value { role_of header.flags header.mode ≡ recorded }
-    ensures { result ≡ bar_by (has_use seen (object_of header [])) (object_of header body.now) }
-{
-    let row = table::row_of(header.mctype);
-    if !row.records {
-        return repeat_or(seen, header, 17);
+    if !bodies::is_fixed(metric_type, object.body) {
+        return Err(ObjectBar::Body);
     }
-    if !bodies::is_series(header.mctype, body) {
-        return 15;
-    }
-    repeat_or(seen, header, 0)
+    check_use(uses, object)
 }
