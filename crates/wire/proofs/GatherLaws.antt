@@ -19,7 +19,9 @@ use Rattle.wire.specs.Reading.{Refused, WellFormed}
 use Rattle.wire.specs.Row.{has_bit}
 use Rattle.wire.specs.Seen.{seen_from, with_use, has_use, bar_by}
 use Rattle.wire.specs.Mandatory.{shows_mandatory}
-use Rattle.wire.specs.Gathered.{Gathers, untold, told_by, whole_reading}
+use Rattle.wire.specs.declared.objects.Header.{Header}
+use Rattle.wire.specs.Step.{object_of}
+use Rattle.wire.specs.Gathered.{Gathers, With, untold, whole_reading}
 use Rattle.wire.specs.Reading.{reading_of}
 use Rattle.wire.proofs.SeenLaws.{seen_snoc, seen_exact}
 use Rattle.wire.proofs.ToldLaws.{told_snoc}
@@ -58,15 +60,14 @@ module _ (g : Gathered) (es : List Object) (o : Object) (w : Gathers g es) where
   bar_seen n e = (seen_exact es o).bar ∙ sym (e ∙ ap (λ x. bar_by (has_use x o) o) w.uses)
 
   -- one object more, without a bar
-  pub gathers_more : (u f n : ℕ) (t : Summary) → object_bar (record { earlier = es; object = o }) ≡ 0 → n ≡ g.count + 1 → u ≡ with_use g.uses.0 o → t ≡ summary (es ++ (o ∷ []))
-      → shows_mandatory f ≡ shows_mandatory g.flags.0 || mandatory o
-      → Gathers (record { count = n; uses = record { 0 = u }; summary = t; flags = record { 0 = f } }) (es ++ (o ∷ []))
-  gathers_more u f n t e c q s a = record {
+  pub gathers_more : (h : Header) (t : Summary) (r : Gathered) → object_bar (record { earlier = es; object = o }) ≡ 0 → With g h t r
+      → with_use g.uses.0 (object_of h []) ≡ with_use g.uses.0 o → mandatory (object_of h []) ≡ mandatory o → t ≡ summary (es ++ (o ∷ [])) → Gathers r (es ++ (o ∷ []))
+  gathers_more h t r e v u m s = record {
     clear = bar_snoc es o ∙ rw (w.clear) e;
-    count = c ∙ rw (w.count, length-append es (o ∷ [])) refl;
-    uses = q ∙ ap (λ n. with_use n o) w.uses ∙ sym (seen_snoc 0 es o);
-    told = s;
-    shown = mandatory_with (shows_mandatory g.flags.0) (shows_mandatory f) es o w.shown a;
+    count = v.count ∙ rw (w.count, length-append es (o ∷ [])) refl;
+    uses = v.uses ∙ u ∙ ap (λ n. with_use n o) w.uses ∙ sym (seen_snoc 0 es o);
+    told = v.summary ∙ s;
+    shown = mandatory_with (shows_mandatory g.flags.0) (shows_mandatory r.flags.0) es o w.shown (v.flags ∙ rw m);
   }
 
 -- the first bar stays the first, whatever objects stand behind

@@ -1,5 +1,5 @@
 -- A pass over a run's objects, by what the two iterators yield and leave: the objects before, and how many there can be.
-use Rattle.std.proofs.Common.{◌≡◌, refl, ap, sym, ◌∙◌, ℕ, zero, suc, ◌+◌, ◌≤◌, Bool, true, false, cond, List, [], ◌∷◌, ◌++◌, length, take, drop, arith, length-drop}
+use Rattle.std.proofs.Common.{◌≡◌, refl, ap, sym, ◌∙◌, ℕ, zero, suc, ◌+◌, ◌≤◌, Bool, true, false, cond, not, List, [], ◌∷◌, ◌++◌, length, take, drop, arith, length-drop}
 use mathlib.Core.List.{append_assoc, append-nil}
 use lib.ListN.{length-append}
 use Rattle.std.specs.Prelude.{leb}
@@ -8,7 +8,7 @@ use lib.Seq.{length-take-le}
 use borrow.Author.Tests.{leb-true, not-false}
 use Rattle.model.specs.Cut.{keep_if}
 use Rattle.model.specs.Object.{Object, object, before, split, behind}
-use Rattle.model.specs.Run.{option, is_container, containers, joined, objects_of, joined_objects, run_objects, option_cut}
+use Rattle.model.specs.Run.{option, is_container, containers, joined, objects_of, joined_objects, run_objects, option_cut, object_cut}
 use Rattle.wire.specs.Front.{front_up_to, front, left, whole, ends_at}
 use Rattle.wire.specs.Options.{options_front_up_to, options_front, options_left, data_front}
 use Rattle.wire.proofs.FrontLaws.{one_more, front_exact}
@@ -167,3 +167,31 @@ pub all_done : (run s t : List ℕ) (es : List Object) → Between run s es → 
 all_done run s t es b e l c =
     let q : ends_at t ≡ true = ends_whole run t c (b.left ∙ l) in
     b.so_far ∙ rw (run_done s t e l q) (ap some (append-nil es))
+
+-- ---- the same with some objects before
+
+pub record Reaches (run rest : List ℕ) : Type 0 where
+  pub earlier : List Object
+  pub between : Between run rest earlier
+
+pub record Within (run rest bytes : List ℕ) : Type 0 where
+  pub earlier : List Object
+  pub inside : Inside run rest bytes earlier
+
+pub reach_start : (run : List ℕ) → Reaches run run
+reach_start run = record { earlier = []; between = at_start run }
+
+pub reach_into : (run s t d : List ℕ) → Reaches run s → data_front s ≡ d ∷ data_front t → options_left s ≡ options_left t → Within run t d
+reach_into run s t d w e l = record { earlier = w.earlier; inside = into run s t d w.earlier w.between e l }
+
+pub within_onward : (run rest s t : List ℕ) (o : Object) → Within run rest s → front s ≡ o ∷ front t → left s ≡ left t → Within run rest t
+within_onward run rest s t o w e l = record { earlier = _; inside = onward run rest s t o w.earlier w.inside e l }
+
+pub within_out : (run rest s t : List ℕ) → Within run rest s → front s ≡ [] → left s ≡ t → ends_at t ≡ true → Reaches run rest
+within_out run rest s t w e l d = record { earlier = w.earlier; between = out run rest s t w.earlier w.inside e l d }
+
+pub within_cut : (run rest s t : List ℕ) → Within run rest s → left s ≡ t → ends_at t ≡ false → false ≡ not (object_cut run)
+within_cut run rest s t w l d = rw (cut_inside run rest s t w.earlier w.inside l d)
+
+pub reach_done : (run s t : List ℕ) → Reaches run s → data_front s ≡ [] → options_left s ≡ t → option_cut run ≡ false → true ≡ not (object_cut run)
+reach_done run s t w e l c = rw (all_done run s t w.earlier w.between e l c)

@@ -1,8 +1,9 @@
 -- Inside the crate: the bars of a run by its options alone.
 use Rattle.std.specs.Prelude.{◌≡◌, ℕ, ◌+◌, cond, List, length, ltb, Result, Ok, Err}
 use Rattle.model.specs.declared.verdicts.Bar.{Bar}
-use Rattle.model.specs.Bars.{bar_number}
+use Rattle.model.specs.Bars.{bar_number, bar_place}
 use Rattle.std.proofs.Math.Option.{Option, none, some}
+use Rattle.model.specs.Reading.{no_place}
 use Rattle.model.specs.Run.{RplOption, options, containers}
 
 -- 23 for more than eight containers, else 0
@@ -22,3 +23,8 @@ frame_bar bs = frame_from 0 (options bs)
 abbrev pub frame_in : Result Unit Bar → ℕ
 frame_in (Ok u) = 0
 frame_in (Err b) = bar_number b
+
+-- and its place, which is none
+abbrev pub frame_place : Result Unit Bar → ℕ
+frame_place (Ok u) = no_place
+frame_place (Err b) = bar_place b

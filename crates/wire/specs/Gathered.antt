@@ -1,5 +1,5 @@
 -- Inside the crate: what the reading pass has gathered of the objects so far.
-use Rattle.std.specs.Prelude.{◌≡◌, ℕ, ◌+◌, Bool, cond, List, [], ◌∷◌, ◌++◌, length, get_or, Result, Ok, Err, Some, None}
+use Rattle.std.specs.Prelude.{◌≡◌, ℕ, ◌+◌, Bool, cond, ◌||◌, List, [], ◌∷◌, ◌++◌, length, get_or, Result, Ok, Err, Some, None}
 use Rattle.std.proofs.Math.Option.{some}
 use Rattle.model.specs.declared.Summary.{Summary}
 use Rattle.model.specs.declared.verdicts.ObjectBar.{ObjectBar}
@@ -12,7 +12,9 @@ use Rattle.model.specs.Reading as model
 use Rattle.model.specs.Constraint.{counts_hops, adds_up, summary, mandatory}
 use Rattle.model.specs.Bars.{object_bar_number}
 use Rattle.wire.specs.declared.gathered.Gathered.{Gathered}
-use Rattle.wire.specs.Seen.{seen_after}
+use Rattle.wire.specs.declared.objects.Header.{Header}
+use Rattle.wire.specs.Step.{object_of}
+use Rattle.wire.specs.Seen.{seen_after, with_use}
 use Rattle.wire.specs.Mandatory.{shows_mandatory}
 
 -- before the first object
@@ -34,6 +36,13 @@ pub record Gathers (g : Gathered) (es : List Object) : Type 0 where
   pub uses : g.uses.0 ≡ seen_after es
   pub told : g.summary ≡ summary es
   pub shown : shows_mandatory g.flags.0 ≡ any_of mandatory es
+
+-- one object more is counted, with its use and its flags, behind which that much is told
+pub record With (g : Gathered) (h : Header) (t : Summary) (r : Gathered) : Type 0 where
+  pub count : r.count ≡ g.count + 1
+  pub uses : r.uses.0 ≡ with_use g.uses.0 (object_of h [])
+  pub summary : r.summary ≡ t
+  pub flags : shows_mandatory r.flags.0 ≡ shows_mandatory g.flags.0 || mandatory (object_of h [])
 
 -- one object more is gathered too, or has a bar, and what is gathered stays
 abbrev pub Adds : Gathered → List Object → Object → Result Unit ObjectBar → Gathered → Type 0

@@ -10,7 +10,6 @@ pub mod Walk
 pub mod Row
 pub mod Reading
 pub mod Put
-pub mod Tlv
 pub mod Seen
 pub mod SeenRows
 pub mod Mandatory

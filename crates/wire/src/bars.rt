@@ -1,22 +1,50 @@
-// Bars 15 to 17 at an object, by its role and the uses seen before it. Each role has its own way through them, so that an object
-// meets no test of another one.
+// Bars 15 to 17 at an object, by its role and the uses seen before it.
 ghost use Rattle.std.specs.Prelude.{◌≡◌, true, cond, []};
-ghost use Rattle.model.specs.Object.{kind_of, known};
+ghost use Rattle.model.specs.Object.{kind_of, known, role_of};
+ghost use Rattle.model.specs.Table.{row};
+ghost use Rattle.model.specs.Reading.{cannot_be, shaped};
+ghost use Rattle.wire.specs.MetricType.{kind_in};
 ghost use Rattle.wire.specs.Step.{object_of};
 ghost use Rattle.wire.specs.Front.{seen};
 ghost use Rattle.wire.specs.Seen.{has_use, bar_by, bar_in};
 
 use crate::bodies;
-use crate::objects::Object;
+use crate::metric_type::MetricType;
+use crate::objects::{Header, Object};
 use crate::seen::Uses;
 use model::ObjectBar;
 
+// Whether an object is a metric that its type cannot be: recorded, or aggregated by any A.
+#[inline(always)]
+fn cannot_be(header: Header, metric_type: MetricType) -> bool
+    ensures { result ≡ cannot_be (role_of header.flags header.mode) (row (kind_in metric_type)) }
+{
+    if header.is_constraint() {
+        return false;
+    }
+    if header.is_recorded() {
+        return !metric_type.row().records;
+    }
+    metric_type.row().allows == 0
+}
+
+// Whether an object's body is as its type has it in its role.
+#[inline(always)]
+fn is_shaped(header: Header, metric_type: MetricType, body: &[u8]) -> bool
+    ensures { result ≡ shaped (role_of header.flags header.mode) (row (kind_in metric_type)) body.now }
+{
+    if header.is_recorded() {
+        return bodies::is_series(metric_type, body);
+    }
+    bodies::is_fixed(metric_type, body)
+}
+
 // 16 at an object whose use was seen.
 #[inline(always)]
-fn check_use(uses: Uses, object: Object) -> Result<(), ObjectBar>
-    ensures { bar_in result ≡ cond (has_use uses.0 (object_of object.entry.header [])) 16 0 }
+fn check_use(uses: Uses, header: Header) -> Result<(), ObjectBar>
+    ensures { bar_in result ≡ cond (has_use uses.0 (object_of header [])) 16 0 }
 {
-    if uses.has(object.header) {
+    if uses.has(header) {
         return Err(ObjectBar::Repeat);
     }
     Ok(())
@@ -28,25 +56,13 @@ pub(crate) fn check(uses: Uses, object: Object) -> Result<(), ObjectBar>
     requires { known (kind_of object.header.mctype) ≡ true }
     ensures { bar_in result ≡ bar_by (has_use uses.0 (object_of object.entry.header [])) (seen object.entry) }
 {
-    let header = object.header;
-    let metric_type = header.metric_type();
-    let row = metric_type.row();
-    if header.is_recorded() {
-        if !row.records {
-            check_use(uses, object)?;
-            return Err(ObjectBar::Recorded);
-        }
-        if !bodies::is_series(metric_type, object.body) {
-            return Err(ObjectBar::Body);
-        }
-        return check_use(uses, object);
-    }
-    if !header.is_constraint() && row.allows == 0 {
-        check_use(uses, object)?;
+    let metric_type = object.header.metric_type();
+    if cannot_be(object.header, metric_type) {
+        check_use(uses, object.header)?;
         return Err(ObjectBar::Recorded);
     }
-    if !bodies::is_fixed(metric_type, object.body) {
+    if !is_shaped(object.header, metric_type, object.body) {
         return Err(ObjectBar::Body);
     }
-    check_use(uses, object)
+    check_use(uses, object.header)
 }

@@ -10,14 +10,14 @@ use crate::metric_type::MetricType;
 fn tlvs_fit(tlvs: &[u8]) -> bool
     ensures { result ≡ tlvs_fit tlvs.now }
 {
-    match tlvs {
-        [] => true,
-        [_, size, rest @ ..] => match rest.get(*size as usize..) {
-            Some(behind) => tlvs_fit(behind),
-            None => false,
-        },
-        _ => false,
+    let [_, size, rest @ ..] = tlvs else {
+        return tlvs.is_empty();
+    };
+    let size = *size as usize;
+    if rest.len() < size {
+        return false;
     }
+    tlvs_fit(&rest[size..])
 }
 
 // The body of a constraint or an aggregated metric: the base bytes, and TLVs behind them where the type has them. Most have none.

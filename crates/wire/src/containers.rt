@@ -1,10 +1,10 @@
 // A run of RPL options (RFC 6550, section 6.7), and the DAG Metric Containers in it.
 ghost use Rattle.std.specs.Prelude.{◌≡◌, ◌≤◌, length, position, not, eqb};
 ghost use Rattle.std.specs.Iterator.{YieldsFirstRef, item_count};
-ghost use Rattle.model.specs.Reading.{misframed};
+ghost use Rattle.model.specs.Reading.{misframed, no_place};
 ghost use Rattle.wire.specs.Front.{ends_at};
 ghost use Rattle.wire.specs.Options.{pads, data_front, LeavesOptions};
-ghost use Rattle.wire.specs.Frame.{frame_bar, frame_in};
+ghost use Rattle.wire.specs.Frame.{frame_bar, frame_in, frame_place};
 
 use model::Bar;
 
@@ -95,7 +95,8 @@ pub(crate) fn is_framed(run: &[u8]) -> bool
 
 // Bars 22 and 23, by the options of a run alone; one whole container has neither.
 pub(crate) fn check(run: &[u8]) -> Result<(), Bar>
-    ensures { frame_in result ≡ frame_bar run.now }
+    ensures number { frame_in result ≡ frame_bar run.now }
+    ensures place { frame_place result ≡ no_place }
 {
     if is_framed(run) {
         return Ok(());

@@ -1,16 +1,16 @@
 // What the reading pass gathers of a run's objects, one behind another.
-ghost use Rattle.std.specs.Prelude.{◌≡◌, ◌<◌, true, List};
-ghost use Rattle.model.specs.Object.{kind, role, aggregated};
+ghost use Rattle.std.specs.Prelude.{◌≡◌, ◌<◌, true, false, List};
+ghost use Rattle.model.specs.Object.{kind, role};
 ghost use Rattle.model.specs.Object as model;
 ghost use Rattle.model.specs.Table.{row};
-ghost use Rattle.model.specs.Reading.{fixed_shape};
+ghost use Rattle.model.specs.Reading.{cannot_be, shaped};
 ghost use Rattle.wire.specs.Front.{seen};
-ghost use Rattle.wire.specs.Gathered.{Gathers, Adds, untold, told_by};
+ghost use Rattle.wire.specs.Gathered.{Gathers, Adds, With, untold, told_by};
 
 use crate::bars;
 use crate::mandatory::FlagsSeen;
 use crate::metric_type::MetricType;
-use crate::objects::Object;
+use crate::objects::{Header, Object};
 use crate::seen::Uses;
 use model::{ObjectBar, Summary};
 
@@ -23,14 +23,20 @@ pub struct Gathered {
     pub flags: FlagsSeen,
 }
 
-// What an aggregated metric tells, in place of what was told before it: an HP metric its count; a latency or an ETX that is added up along
-// the path, A=0, its value.
+// What an object of known type without a bar tells, in place of what was told before it: an HP metric its count; a latency or an ETX that
+// is added up along the path, A=0, its value.
 #[inline(always)]
 fn told_with(summary: Summary, object: Object) -> Summary
-    requires aggregated { role (seen object) ≡ aggregated }
-    requires shaped { fixed_shape (row (kind (seen object))) object.body.now ≡ true }
+    requires allowed { cannot_be (role (seen object)) (row (kind (seen object))) ≡ false }
+    requires shaped { shaped (role (seen object)) (row (kind (seen object))) object.body.now ≡ true }
     ensures { result ≡ told_by summary (seen object.entry) }
 {
+    if object.header.is_constraint() {
+        return summary;
+    }
+    if object.header.is_recorded() {
+        return summary;
+    }
     let is_added = object.header.aggregation() == 0;
     match (object.header.metric_type(), object.body) {
         (MetricType::HopCount, [_, count, ..]) => Summary {
@@ -70,6 +76,20 @@ impl Gathered {
         }
     }
 
+    // With one object more, behind which that much is told.
+    #[inline(always)]
+    fn with(self, header: Header, summary: Summary) -> Gathered
+        requires { self.count < 18446744073709551615 }
+        ensures { With self header summary result }
+    {
+        Gathered {
+            count: self.count + 1,
+            uses: self.uses.with(header),
+            summary,
+            flags: self.flags.with(header),
+        }
+    }
+
     // One object more, or the lowest of bars 15 to 17 that it has. Of an object of unknown type only the flags are kept.
     #[inline(always)]
     pub(crate) fn add(&mut self, object: Object) -> Result<(), ObjectBar>
@@ -77,15 +97,12 @@ impl Gathered {
         ensures { (es : List model.Object) → Gathers self.old es → Adds self.old es (seen object.entry) result self.new }
     {
         let header = object.header;
-        if header.metric_type() != MetricType::Unknown {
-            bars::check(self.uses, object)?;
-            if !header.is_constraint() && !header.is_recorded() {
-                self.summary = told_with(self.summary, object);
-            }
-            self.uses = self.uses.with(header);
+        if !header.metric_type().is_known() {
+            *self = self.with(header, self.summary);
+            return Ok(());
         }
-        self.flags = self.flags.with(header);
-        self.count += 1;
+        bars::check(self.uses, object)?;
+        *self = self.with(header, told_with(self.summary, object));
         Ok(())
     }
 }

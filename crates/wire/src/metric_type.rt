@@ -1,5 +1,7 @@
 // The types of metrics and constraints (RFC 6551, section 6.1: Routing-MC-Type).
-ghost use Rattle.wire.specs.MetricType.{TypeOf};
+ghost use Rattle.std.specs.Prelude.{◌≡◌};
+ghost use Rattle.model.specs.Object.{known};
+ghost use Rattle.wire.specs.MetricType.{TypeOf, kind_in};
 
 // A type, as far as this release knows it.
 #[derive(Clone, Copy, PartialEq, Eq)]
@@ -27,6 +29,7 @@ pub enum MetricType {
 impl From<u8> for MetricType {
     ghost from_gives = { TypeOf };
 
+    #[tactic(auto, unfolding(model::specs::Object::kind_of))]
     fn from(mctype: u8) -> Self {
         match mctype {
             1 => MetricType::NodeState,
@@ -39,5 +42,15 @@ impl From<u8> for MetricType {
             8 => MetricType::LinkColour,
             _ => MetricType::Unknown,
         }
+    }
+}
+
+impl MetricType {
+    // Whether this release knows it: 1 to 8.
+    #[inline(always)]
+    pub fn is_known(self) -> bool
+        ensures { result ≡ known (kind_in self) }
+    {
+        !matches!(self, MetricType::Unknown)
     }
 }

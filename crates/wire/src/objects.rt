@@ -75,10 +75,10 @@ pub struct Objects<'a> {
 impl<'a> Objects<'a> {
     // The objects of a container's data.
     #[inline(always)]
-    pub fn new(data: &'a [u8]) -> Self
-        ensures { result.rest.now ≡ data.now }
+    pub fn new(bytes: &'a [u8]) -> Self
+        ensures { result.rest.now ≡ bytes.now }
     {
-        Objects { rest: data }
+        Objects { rest: bytes }
     }
 
     // Whether nothing is left: what is left where there is no next object is cut short.

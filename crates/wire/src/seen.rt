@@ -4,7 +4,6 @@ ghost use Rattle.model.specs.Object.{known, kind_of};
 ghost use Rattle.wire.specs.Step.{object_of};
 ghost use Rattle.wire.specs.Seen.{use_index, has_use, with_use};
 
-use crate::metric_type::MetricType;
 use crate::objects::Header;
 
 // The bits.
@@ -26,7 +25,7 @@ impl Uses {
     pub(crate) fn has(self, header: Header) -> bool
         ensures { result ≡ has_use self.0 (object_of header []) }
     {
-        if header.metric_type() == MetricType::Unknown {
+        if !header.metric_type().is_known() {
             return false;
         }
         (self.0 as u64 >> use_index(header)) % 2 == 1
@@ -37,7 +36,7 @@ impl Uses {
     pub(crate) fn with(self, header: Header) -> Uses
         ensures { result.0 ≡ with_use self.0 (object_of header []) }
     {
-        if header.metric_type() == MetricType::Unknown {
+        if !header.metric_type().is_known() {
             return self;
         }
         Uses(self.0 | (1 << use_index(header)))
