@@ -1,7 +1,7 @@
 // The objects of a container's data (RFC 6551, section 2.1), one after another.
-ghost use Rattle.std.specs.Prelude.{◌≡◌, ◌+◌, ◌/◌, ◌%◌, []};
+ghost use Rattle.std.specs.Prelude.{◌≡◌, []};
 ghost use Rattle.std.specs.Iterator.{YieldsFirstBy, item_count};
-ghost use Rattle.model.specs.Object.{is_constraint, is_recorded, role_of, kind_of};
+ghost use Rattle.model.specs.Object.{field_a, is_constraint, is_recorded, role_of, kind_of};
 ghost use Rattle.model.specs.Constraint.{mandatory};
 ghost use Rattle.wire.specs.MetricType.{kind_in};
 ghost use Rattle.wire.specs.Step.{object_of};
@@ -53,7 +53,7 @@ impl Header {
     // The field A.
     #[inline(always)]
     pub fn aggregation(self) -> u8
-        ensures { result ≡ self.mode / 16 % 8 }
+        ensures { result ≡ field_a (object_of self []) }
     {
         self.mode / 16 % 8
     }
