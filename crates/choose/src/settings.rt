@@ -6,7 +6,7 @@ use crate::say::{Buffer, Fault};
 use crate::state::{Lent, Rows, State};
 use crate::{names, state};
 use feed::Fed;
-use words::{Decimal, HexByte};
+use words::NotDecimal;
 
 // The limits of minhop, maxincrease, rank, sp, rf, sr, type, lql, lowest, energy, current, room, etx, latency, throughput, colour,
 // order, preference, edition, start, size and why.
@@ -178,7 +178,7 @@ fn number(line: &[u8], end: usize, k: usize, s: State, rows: &mut Rows, out: &mu
     let from = words::word_start(line, end);
     let to = words::word_end(line, from);
     match words::number(&line[from..to]) {
-        Decimal::Value(n) => {
+        Ok(n) => {
             if LIMITS[k] < n {
                 return stop(end, s, out, Fault::TooLarge(LIMITS[k]), k);
             }
@@ -189,8 +189,8 @@ fn number(line: &[u8], end: usize, k: usize, s: State, rows: &mut Rows, out: &mu
                 state: given,
             }
         }
-        Decimal::TooLarge => stop(end, s, out, Fault::TooLarge(LIMITS[k]), k),
-        Decimal::NotANumber => stop(end, s, out, Fault::NoNumber, k),
+        Err(NotDecimal::TooLarge) => stop(end, s, out, Fault::TooLarge(LIMITS[k]), k),
+        Err(NotDecimal::NotANumber) => stop(end, s, out, Fault::NoNumber, k),
     }
 }
 
@@ -210,14 +210,14 @@ fn lend(line: &[u8], from: usize, used: usize, lent: &mut Lent) -> HexRun
             return HexRun::Bad;
         }
         match words::byte(line[at], line[at + 1]) {
-            HexByte::Byte(b) => {
+            Some(b) => {
                 if n == 65536 {
                     return HexRun::TooMany;
                 }
                 lent[n] = b;
                 n += 1;
             }
-            HexByte::NotHex => {
+            None => {
                 return HexRun::Bad;
             }
         }
@@ -275,11 +275,11 @@ fn feed_line(line: &[u8], from: usize, before: Fed, kept: &mut [u8]) -> Parted
             return Parted::Bad;
         }
         match words::byte(line[at], line[at + 1]) {
-            HexByte::Byte(b) => {
+            Some(b) => {
                 let one = [b; 1];
                 fed = feed::feed(fed, &one, kept);
             }
-            HexByte::NotHex => {
+            None => {
                 return Parted::Bad;
             }
         }

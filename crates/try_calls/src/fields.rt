@@ -1,8 +1,6 @@
 // Reading the numbers of a line.
 ghost use Rattle.std.specs.Prelude.{◌≤◌, ◌≡◌, length};
 
-use words::Decimal;
-
 // A number, and the index behind it; 0 if there is none.
 #[derive(Clone, Copy)]
 pub struct Field {
@@ -25,9 +23,8 @@ fn number(text: &[u8], from: usize) -> Field
     let start = from + 1;
     let end = words::find(text, start, b' ');
     match words::number(&text[start..end]) {
-        Decimal::Value(value) => Field { value, next: end },
-        Decimal::TooLarge => none,
-        Decimal::NotANumber => none,
+        Ok(value) => Field { value, next: end },
+        Err(_) => none,
     }
 }
 
