@@ -1,17 +1,17 @@
 -- The numbers and the buffer mirror what was fed, and there is room for every byte that is kept.
 use mathlib.Core.Path.{◌≡◌, refl, sym, ap, subst, ◌∙◌}
-use Prim.Native.Nat.{ℕ, zero, suc, ◌+◌, ◌-◌, ◌*◌, ◌≤◌, ◌<◌}
+use Prim.Native.Nat.{ℕ, zero, suc, ◌+◌, ◌-◌, ◌*◌, ◌≤◌}
 use native.Mathlib.Omega.{arith}
 use mathlib.Core.Bool.{Bool, true, false, cond}
 use mathlib.Core.List.{List, [], ◌∷◌, ◌++◌}
 use mathlib.Core.Logic.{◌⊎◌, inl, inr}
-use lib.ListN.{length, take, set, length-append, length-take}
+use lib.ListN.{length, take, length-append, length-take}
 use lib.Seq.{take-suc-set, take-take}
 use lib.Dec.{ltb, eqb}
-use borrow.Author.Tests.{lt-ltb, le-ltb, eq-eqb, ne_eqb, ltb-true, ltb-false, eqb-true, eqb-false}
+use borrow.Author.Tests.{lt-ltb, le-ltb, eq-eqb, ne_eqb, ltb-true, eqb-true, eqb-false}
 use Rattle.feed.specs.declared.bytes.Fed.{Fed}
 use Rattle.feed.proofs.StepLaws.{stored-length}
-use Rattle.feed.specs.Feeding.{Keep, dropped, emptied, whole, Phase, between, typed, within, Feeding, fed, keep_of, closed as closed_as, goes_on as goes_on_as, kept_with, begins, feed_at, feed_byte, unfed}
+use Rattle.feed.specs.Feeding.{Keep, dropped, emptied, whole, Phase, between, typed, within, Feeding, keep_of, closed as closed_as, goes_on as goes_on_as, kept_with, begins, feed_at, feed_byte, unfed}
 use Rattle.feed.specs.Step.{state, keep_number, more, stored, one_more, closed, closed_in, goes_on, goes_on_in, gone, gone_in, begun, begun_in, stepped, stepped_in}
 
 -- ---- room

@@ -1,20 +1,19 @@
 -- A run that is fed in parts is the run that came whole.
-use mathlib.Core.Path.{◌≡◌, refl, sym, ap, ◌∙◌}
-use Prim.Native.Nat.{ℕ, zero, suc, ◌-◌, ◌≤◌}
+use mathlib.Core.Path.{◌≡◌, refl, ap, ◌∙◌}
+use Prim.Native.Nat.{ℕ, zero, suc, ◌≤◌}
 use native.Mathlib.Omega.{arith}
 use mathlib.Core.Bool.{Bool, true, false, cond}
-use mathlib.Core.List.{List, [], ◌∷◌, ◌++◌}
+use mathlib.Core.List.{List, [], ◌∷◌}
 use mathlib.Core.Option.{some, some-injective}
-use lib.ListN.{length, take, drop, set, get_elem?}
+use lib.ListN.{length, get_elem?}
 use lib.Seq.{length-take-le}
 use lib.Dec.{ltb, eqb}
-use borrow.Author.Tests.{lt-ltb, le-ltb, eq-eqb, ne_eqb}
+use borrow.Author.Tests.{lt-ltb, le-ltb, eq-eqb}
 use Rattle.model.specs.declared.Own.{Own}
 use Rattle.model.specs.declared.Candidate.{Candidate}
 use Rattle.model.specs.declared.Choice.{Choice}
 use Rattle.model.specs.declared.Choice.TheVariants.{Nobody, Parent}
 use Rattle.model.specs.declared.Offer.{Offer}
-use Rattle.model.specs.declared.Verdict.{Verdict}
 use Rattle.model.specs.declared.Verdict.TheVariants.{Unbarred, Barred}
 use Rattle.model.specs.RoundTrip.{Bytes}
 use Rattle.model.specs.Reading.{no_place}
@@ -26,9 +25,9 @@ use Rattle.model.proofs.ByteLaws.{part_bytes, first_byte}
 use Rattle.model.proofs.VerdictLaws.{admitted}
 use Rattle.model.proofs.ChoiceLaws.{choose_unbarred}
 use Rattle.feed.specs.declared.bytes.Fed.{Fed}
-use Rattle.feed.specs.Feeding.{Feeding, between, Phase, unfed, feed_byte, feed}
-use Rattle.feed.specs.Step.{state, stored, stepped, stepped_in, fed_bytes, fed_bytes_in, fed, fed_in}
-use Rattle.feed.specs.Parts.{Kept, fed_parts, fed_run, kept_of, Keeps, FedReads, Came, as_it_is, in_parts, FedBeside, FedInParts, ToldShort, ShortTold, StaysInRoom}
+use Rattle.feed.specs.Feeding.{Feeding, unfed, feed_byte, feed}
+use Rattle.feed.specs.Step.{state, stepped, stepped_in, fed_bytes, fed_bytes_in, fed, fed_in}
+use Rattle.feed.specs.Parts.{fed_parts, fed_run, FedReads, Came, as_it_is, in_parts, FedBeside, FedInParts, ShortTold, StaysInRoom}
 use Rattle.feed.proofs.StepLaws.{stepped_length, fed_length, fed_behind}
 use Rattle.feed.proofs.FedLaws.{feed-append, fed_reads}
 use Rattle.feed.proofs.MirrorLaws.{Mirrors, room_of, not_short, mirrors_first, mirrors_step}
