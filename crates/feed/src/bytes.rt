@@ -151,6 +151,7 @@ impl Keeper<'_> {
 }
 
 // Takes the next part of a run; answers the state for the part behind it.
+#[tactic(auto, unfolding(crate::specs::Step::fed, crate::specs::Step::fed_in))]
 pub fn feed(state: Fed, part: &[u8], kept: &mut [u8]) -> Fed
     ensures value { result ≡ fed state part.now (length kept.old) }
     ensures written { kept.new ≡ fed_in state part.now kept.old }
