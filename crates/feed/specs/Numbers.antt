@@ -13,6 +13,7 @@ phase_of n = cond (eqb n 1) Typed (cond (eqb n 2) Within (cond (eqb n 255) Short
 abbrev pub keep_of : (number : ℕ) → Keep
 keep_of n = cond (eqb n 0) Dropped (cond (eqb n 1) Empty Whole)
 
+-- the number of each
 abbrev pub keep_number_of : Keep → ℕ
 keep_number_of Dropped = 0
 keep_number_of Empty = 1

@@ -48,19 +48,19 @@ impl From<u8> for Keep {
 }
 
 impl Keep {
-    // The first eight containers are kept whole, the ninth as an empty one.
-    pub(crate) fn of(mctype: u8, count: u8) -> Keep
-        ensures { keep_number_of result ≡ keep_number mctype count }
+    // Of DAG metric containers (RFC 6550, 6.7.4) the first eight are kept whole, the ninth as an empty one; no other option is kept.
+    pub(crate) fn of(option_type: u8, count: u8) -> Keep
+        ensures { keep_number_of result ≡ keep_number option_type count }
     {
-        if mctype != 2 {
+        if option_type != 2 {
             return Keep::Dropped;
         }
         if count < 8 {
-            return Keep::Whole;
+            Keep::Whole
+        } else if count == 8 {
+            Keep::Empty
+        } else {
+            Keep::Dropped
         }
-        if count == 8 {
-            return Keep::Empty;
-        }
-        Keep::Dropped
     }
 }
