@@ -1,5 +1,5 @@
 // What is left of a line: words, numbers and bytes.
-ghost use Rattle.std.specs.Prelude.{length};
+ghost use Rattle.std.specs.Prelude.{◌≤◌, length, IfOk};
 ghost use Rattle.std.specs.Iterator.{at_most};
 
 use crate::fault::Fault;
@@ -49,8 +49,10 @@ impl<'a> Rest<'a> {
         Some(word)
     }
 
-    // The number behind a setting, which is at most so large. Behind another word the line stays as it is: that word is still to come.
-    pub(crate) fn up_to(&mut self, setting: Setting, most: u64) -> Result<u64, Fault> {
+    // The number behind a setting, which is at most so large. Any other word is left on the line, since it can begin a call.
+    pub(crate) fn up_to(&mut self, setting: Setting, most: u64) -> Result<u64, Fault>
+        ensures { IfOk result (λ n. n ≤ most) }
+    {
         let mut behind = *self;
         let word = behind.word().ok_or(Fault::NoNumber(setting))?;
         match words::number(word) {

@@ -7,9 +7,6 @@ use reason::Reason;
 use std::io;
 use std::io::Write;
 
-// What a reason's place is where no object bars.
-const NO_PLACE: u16 = 65535;
-
 // Writes the line of the candidate at a position.
 pub(crate) fn line(out: &mut Output, told: &Call, position: usize) -> io::Result<()> {
     let own = told.own.own;
@@ -27,8 +24,8 @@ pub(crate) fn line(out: &mut Output, told: &Call, position: usize) -> io::Result
     writeln!(out)
 }
 
-// Whether there is a sentence on what was asked and found. Of a run that was fed in parts only what reads alike is kept, so that there is none
-// where its options bar.
+// Whether there is a sentence on what was asked and found. Of a run that came in parts only what reads alike is kept, so that there
+// is none where its options bar.
 fn is_told(why: &Reason, one: &CandidateSettings) -> bool {
     let by_options = why.number == 22 || why.number == 23;
     why.kind == reason::BARRED && !(one.is_parted() && by_options)
@@ -44,8 +41,8 @@ fn reason(out: &mut Output, why: &Reason) -> io::Result<()> {
         reason::CHOSEN => write!(out, "chosen"),
         reason::BARRED => {
             write!(out, "barred by number {}", why.number)?;
-            if why.place != NO_PLACE {
-                write!(out, " at object {}", why.place)?;
+            if let Some(index) = report::object_at(why.place) {
+                write!(out, " at object {index}")?;
             }
             report::meaning(out, why.number)
         }
