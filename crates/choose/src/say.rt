@@ -118,10 +118,8 @@ pub(crate) fn meaning(out: &mut Buffer, held: usize, number: u8) -> usize
     requires { held ≤ 65536 }
     ensures { result ≤ 65536 }
 {
-    let mut words = [0u8; meaning::MEANING_ROOM];
-    let n = meaning::put_meaning(number, &mut words);
     let a = text(out, held, b": ");
-    text(out, a, &words[..n])
+    text(out, a, meaning::words(number).as_bytes())
 }
 
 // Puts the name of a word, with a space behind it; nothing where it has none.
