@@ -3,7 +3,7 @@
 
 ghost use Rattle.std.specs.Prelude.{◌≤◌, IfOk, length};
 
-use listing::Listed;
+use listing::ShortOutput;
 use std::io;
 use std::io::{Read, Stdin};
 
@@ -28,7 +28,7 @@ fn main(rt: HostRuntime) -> io::Result<()> {
     let mut text = [0u8; listing::TEXT_ROOM];
     let n = read_full(rt.stdin(), &mut input)?;
     match listing::list(&input[..n], &mut text) {
-        Listed::Text(size) => rt.write_all(&text[..size]),
-        Listed::ShortOutput => Ok(()),
+        Ok(size) => rt.write_all(&text[..size]),
+        Err(ShortOutput) => Ok(()),
     }
 }
