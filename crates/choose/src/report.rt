@@ -6,10 +6,7 @@ use std::io::Write;
 
 // Writes what a number means, behind `: `.
 pub(crate) fn meaning(out: &mut Output, number: u8) -> io::Result<()> {
-    let mut words = [0u8; meaning::MEANING_ROOM];
-    let n = meaning::put_meaning(number, &mut words);
-    out.write_all(b": ")?;
-    out.write_all(&words[..n])
+    write!(out, ": {}", meaning::words(number))
 }
 
 // The index of an object, unless its place says that there is none.
