@@ -24,10 +24,10 @@ pub(crate) fn line(out: &mut Output, told: &Call, position: usize) -> io::Result
     writeln!(out)
 }
 
-// Whether there is a sentence on what was asked and found. Of a run that came in parts only what reads alike is kept, so that there
-// is none where its options bar.
+// Whether there is a sentence on what was asked and found. Of a run that came in parts only what reads alike is kept, so that
+// there is none where its options bar.
 fn is_told(why: &Reason, one: &CandidateSettings) -> bool {
-    let by_options = why.number == 22 || why.number == 23;
+    let by_options = matches!(why.number, 22 | 23);
     why.kind == reason::BARRED && !(one.is_parted() && by_options)
 }
 
