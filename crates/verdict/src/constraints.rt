@@ -16,11 +16,7 @@ use wire::{Containers, MetricType, Object, Objects};
 fn energy_of(neighbour: &Neighbour) -> Option<u8>
     ensures { result ≡ energy_in neighbour.now.flags neighbour.now.energy }
 {
-    if neighbour.flags / 4 % 2 == 1 {
-        Some(neighbour.energy)
-    } else {
-        None
-    }
+    (neighbour.flags / 4 % 2 == 1).then_some(neighbour.energy)
 }
 
 // The link's throughput, where it is known.
@@ -28,11 +24,7 @@ fn energy_of(neighbour: &Neighbour) -> Option<u8>
 fn throughput_of(neighbour: &Neighbour) -> Option<u32>
     ensures { result ≡ link_value neighbour.now throughput }
 {
-    if neighbour.flags / 32 % 2 == 1 {
-        Some(neighbour.throughput)
-    } else {
-        None
-    }
+    (neighbour.flags / 32 % 2 == 1).then_some(neighbour.throughput)
 }
 
 // The link's latency, where it is known.
@@ -40,11 +32,7 @@ fn throughput_of(neighbour: &Neighbour) -> Option<u32>
 fn latency_of(neighbour: &Neighbour) -> Option<u32>
     ensures { result ≡ link_value neighbour.now latency }
 {
-    if neighbour.flags / 16 % 2 == 1 {
-        Some(neighbour.latency)
-    } else {
-        None
-    }
+    (neighbour.flags / 16 % 2 == 1).then_some(neighbour.latency)
 }
 
 // The link's ETX, where it is known.
@@ -52,11 +40,7 @@ fn latency_of(neighbour: &Neighbour) -> Option<u32>
 fn etx_of(neighbour: &Neighbour) -> Option<u16>
     ensures { result ≡ link_value neighbour.now etx }
 {
-    if neighbour.flags / 8 % 2 == 1 {
-        Some(neighbour.etx)
-    } else {
-        None
-    }
+    (neighbour.flags / 8 % 2 == 1).then_some(neighbour.etx)
 }
 
 // NSA: the aggregator bit asks for an aggregating neighbour, the overload bit for one that is not overloaded.
@@ -168,7 +152,8 @@ fn check_object(neighbour: &Neighbour, summary: &Summary, object: Object) -> Res
     }
 }
 
-// The first bar 18 or 19 in a well-formed run: its objects outside, the tests of a constraint within.
+// The first bar 18 or 19 in a well-formed run: its objects outside, the tests of a constraint within. The place is counted by hand: one
+// iterator over the objects of all containers, enumerated, makes a call with constraints slower.
 pub(crate) fn check(neighbour: &Neighbour, summary: &Summary, run: &[u8]) -> Result<(), Bar>
     requires { WellFormed run.now }
     ensures { FirstBarring neighbour.now summary.now run.now result }
