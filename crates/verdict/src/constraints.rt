@@ -152,8 +152,8 @@ fn check_object(neighbour: &Neighbour, summary: &Summary, object: Object) -> Res
     }
 }
 
-// The first bar 18 or 19 in a well-formed run: its objects outside, the tests of a constraint within. The place is counted by hand: one
-// iterator over the objects of all containers, enumerated, makes a call with constraints slower.
+// The first bar 18 or 19 in a well-formed run: its objects outside, the tests of a constraint within. The place is counted by hand,
+// since one iterator over the objects of all containers, enumerated, takes longer.
 pub(crate) fn check(neighbour: &Neighbour, summary: &Summary, run: &[u8]) -> Result<(), Bar>
     requires { WellFormed run.now }
     ensures { FirstBarring neighbour.now summary.now run.now result }

@@ -15,8 +15,8 @@ fn units_of(neighbour: &Neighbour) -> Units
     Units((neighbour.rf as u32) * (neighbour.sp as u32) + (neighbour.sr as u32))
 }
 
-// The formula, which alone leads from units to a rank: a rank grown by units of MinHopRankIncrease, in 32 bits, which hold it; none where
-// it is 65535 or more.
+// The formula, which alone leads from units to a rank: a rank grown by units of MinHopRankIncrease, in 32 bits, which hold it.
+// None where it is 65535 or more.
 #[tactic(auto, unfolding(crate::specs::Judged::finite_rank))]
 fn grow(rank: Rank, units: Units, minhop: u16) -> Option<Rank>
     requires { units.0 ≤ 65280 }
