@@ -1,11 +1,10 @@
 -- The text of what was read.
 use mathlib.Core.Path.{◌≡◌, refl, sym, ap, ◌∙◌}
-use Prim.Native.Nat.{ℕ, ◌+◌, ◌≤◌}
+use Prim.Native.Nat.{ℕ, suc, ◌+◌, ◌-◌, ◌≤◌}
 use native.Mathlib.Omega.{arith}
 use mathlib.Core.Bool.{Bool, true, false, cond}
 use mathlib.Core.List.{List, [], ◌∷◌, ◌++◌}
-use mathlib.Core.Option.{some}
-use lib.ListN.{length, take, drop, get_or, length-append, take-append-drop}
+use lib.ListN.{length, take, drop, get_or, length-append, length-drop, take-append-drop}
 use lib.Seq.{take_all, get_or-take, length-take-le}
 use lib.Dec.{ltb}
 use borrow.Author.Tests.{le-ltb, ltb-true, ltb-false}
@@ -16,12 +15,13 @@ use Rattle.model.specs.RoundTrip.{Bytes}
 use Rattle.model.specs.Listing.{newline, decimal, line, object_lines, refused_word, listing_of, listing}
 use Rattle.model.proofs.ByteLaws.{first_byte}
 use Rattle.model.proofs.ReadingLaws.{frame_short, framed_short, reading_objects}
-use Rattle.wire.specs.declared.container.Reading.TheVariants.{Refused, WellFormed}
-use Rattle.wire.specs.Reading.{reading_of}
+use Rattle.wire.specs.Front.{front}
+use Rattle.wire.specs.Reading.{Refused, WellFormed, reading_of}
+use Rattle.wire.proofs.FrontLaws.{split-front}
 use Rattle.listing.specs.declared.ShortOutput.{ShortOutput}
 use Rattle.std.proofs.Common.{Result, Ok}
 use Rattle.listing.specs.Listed.{text_room, too_short, listed, listed_in, TextFits, ListingOfFront}
-use Rattle.wire.specs.declared.container.Told.{Told}
+use Rattle.model.specs.declared.Summary.{Summary}
 use Rattle.listing.specs.Puts.{Puts}
 use Rattle.listing.proofs.PutLaws.{digits}
 use Rattle.listing.proofs.LineLaws.{lines_room}
@@ -49,22 +49,29 @@ pub text_fits : TextFits
 text_fits bs h = text_short bs (byte_one bs h)
 
 -- the objects of a container that code reads as well-formed
-well_formed_lem : (bs : List ℕ) {count : ℕ} {k : Bool} {told : Told} → reading_of (reading bs) ≡ WellFormed count k told → (os : List Object) × (reading bs ≡ model.well_formed os)
+well_formed_lem : (bs : List ℕ) {count : ℕ} {k : Bool} {told : Summary} → reading_of (reading bs) ≡ WellFormed count k told → (os : List Object) × (reading bs ≡ model.well_formed os)
 well_formed_lem bs {count} {k} {told} e = go (reading bs) refl e
   where
     go : (m : model.Reading) → reading bs ≡ m → reading_of m ≡ WellFormed count k told → (os : List Object) × (reading bs ≡ model.well_formed os)
     go (model.refused n p) f e = absurd (let z : ◌≡◌ {A = ℕ} 0 1 = cc in omega arith)
     go (model.well_formed os) f e = (os, f)
 
--- it has 257 bytes at most
-pub well_short : (bs : List ℕ) {count : ℕ} {k : Bool} {told : Told} → reading_of (reading bs) ≡ WellFormed count k told → get_or bs 1 0 ≤ 255 → length bs ≤ 257
-well_short bs e l = let (os, r) = well_formed_lem bs e in (data_short bs os r l).1
+-- they stand behind its first two bytes, and their lines are its text
+pub record WellRead (bs ds : List ℕ) : Type 0 where
+  pub framed : 2 ≤ length bs
+  pub few : length (join (front ds)) ≤ 255
+  pub text : object_lines (front ds) ≡ listing bs
 
--- its text is the lines of its objects
-pub well_text : (bs : List ℕ) {output left : List ℕ} {count r : ℕ} {k : Bool} {told : Told} → reading_of (reading bs) ≡ WellFormed count k told
-    → ((os : List Object) → data_objects bs ≡ some os → Puts output 0 (object_lines os) left r) → Puts output 0 (listing bs) left r
+pub well_read : (bs : List ℕ) {count : ℕ} {k : Bool} {told : Summary} → reading_of (reading bs) ≡ WellFormed count k told → get_or bs 1 0 ≤ 255
+    → WellRead bs (take (length bs - 2) (drop 2 bs))
 unfolding listing
-well_text bs e q = let (os, r) = well_formed_lem bs e in rw r (q os (reading_objects bs os r).objects)
+well_read bs e l =
+    let (os, r) = well_formed_lem bs e in
+    let a = reading_objects bs os r in
+    let s : length bs ≡ suc (suc (length (join os))) = ap length a.whole in
+    let d : take (length bs - 2) (drop 2 bs) ≡ drop 2 bs = take_all (length bs - 2) (drop 2 bs) (rw length-drop (omega arith)) in
+    let f : front (take (length bs - 2) (drop 2 bs)) ≡ os = rw d (split-front (drop 2 bs) os a.objects).0 in
+    record { framed = omega arith; few = rw f (data_short bs os r l).0; text = rw (f, r) refl }
 
 -- the text of a container that code reads as refused
 pub refused_text : (bs : List ℕ) {output left : List ℕ} {n place r : ℕ} → reading_of (reading bs) ≡ Refused n place

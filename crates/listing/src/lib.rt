@@ -1,17 +1,16 @@
 // The text that lists a container.
 #![tactic(auto)]
 
-ghost use Rattle.std.specs.Prelude.{◌≡◌, ◌≤◌, List, length};
-ghost use Rattle.std.proofs.Math.Option.{some};
-ghost use Rattle.model.specs.Object.{Object};
-ghost use Rattle.model.specs.Reading.{data_objects};
+ghost use Rattle.std.specs.Prelude.{◌≡◌, ◌≤◌, length};
+ghost use Rattle.model.specs.Object.{join};
 ghost use Rattle.model.specs.Listing.{object_lines};
+ghost use Rattle.wire.specs.Front.{front};
 ghost use Rattle.listing.specs.Listed.{text_room, listed, listed_in};
 ghost use Rattle.listing.specs.Puts.{Puts};
 
 mod writer;
 
-use wire::{Reading, Step};
+use wire::Objects;
 use writer::Writer;
 
 // Bytes that hold the text of any container.
@@ -21,24 +20,16 @@ pub const TEXT_ROOM: usize = 1100;
 #[derive(Clone, Copy, PartialEq, Eq, Debug)]
 pub struct ShortOutput;
 
-// Puts a line for each object of a container.
-fn put_lines(container: &[u8], writer: &mut Writer)
-    requires container_len_bound { length container.now ≤ 257 }
+// Puts a line for each object of a container's data.
+fn put_lines(bytes: &[u8], writer: &mut Writer)
+    requires few { length (join (front bytes.now)) ≤ 255 }
     requires text_room_in_bounds { text_room ≤ length writer.old.out.now }
     requires unused { writer.old.used ≡ 0 }
     ensures same_output { writer.new.out.ghost_name ≡ writer.old.out.ghost_name }
-    ensures put { (os : List Object) → data_objects container.now ≡ some os → Puts writer.old.out.now 0 (object_lines os) writer.new.out.now writer.new.used }
+    ensures put { Puts writer.old.out.now 0 (object_lines (front bytes.now)) writer.new.out.now writer.new.used }
 {
-    let mut cursor = wire::first();
-    while let Step::Found {
-        header,
-        start,
-        end,
-        next,
-    } = wire::next(container, cursor)
-    {
-        writer.line(header, (end - start) as u8);
-        cursor = next;
+    for object in Objects::new(bytes) {
+        writer.line(object);
     }
 }
 
@@ -52,12 +43,12 @@ pub fn list(container: &[u8], out: &mut [u8]) -> Result<usize, ShortOutput>
     }
     let mut writer = Writer { out, used: 0 };
     match wire::read(container) {
-        Reading::Refused { number, .. } => {
-            writer.refused(number);
+        Err(bar) => {
+            writer.refused(bar.number());
             Ok(writer.used)
         }
-        Reading::WellFormed { .. } => {
-            put_lines(container, &mut writer);
+        Ok(_) => {
+            put_lines(&container[2..], &mut writer);
             Ok(writer.used)
         }
     }

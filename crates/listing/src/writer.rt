@@ -1,10 +1,11 @@
 // Text that is put at the start of an output, piece by piece.
 ghost use Rattle.std.specs.Prelude.{◌≡◌, ◌+◌, ◌<◌, ◌≤◌, [], ◌∷◌, ◌++◌, length};
-ghost use Rattle.model.specs.Listing.{line, refused_word};
-ghost use Rattle.listing.specs.Line.{digit_at, number_and, header_line};
+ghost use Rattle.model.specs.Listing.{line, object_line, refused_word};
+ghost use Rattle.wire.specs.Front.{seen};
+ghost use Rattle.listing.specs.Line.{digit_at, number_and};
 ghost use Rattle.listing.specs.Puts.{Puts};
 
-use wire::Header;
+use wire::Object;
 
 // An output, and how many bytes at its start are text.
 #[derive(Drop)]
@@ -61,18 +62,20 @@ impl<'a> Writer<'a> {
     }
 
     // Puts the line of an object.
-    pub(crate) fn line(&mut self, header: Header, size: u8)
-        requires { self.old.used + 28 ≤ length self.old.out.now }
+    pub(crate) fn line(&mut self, object: Object)
+        requires room { self.old.used + 28 ≤ length self.old.out.now }
+        requires short { length object.body.now ≤ 255 }
         ensures same_output { self.new.out.ghost_name ≡ self.old.out.ghost_name }
-        ensures put { Puts self.old.out.now self.old.used (header_line header size) self.new.out.now self.new.used }
+        ensures put { Puts self.old.out.now self.old.used (object_line (seen object.entry)) self.new.out.now self.new.used }
     {
+        let header = object.header;
         self.number(header.mctype, b' ');
         self.number(header.flags / 2 % 2, b' ');
         self.number(header.flags % 2, b' ');
         self.number(header.mode / 128 % 2, b' ');
         self.number(header.mode / 16 % 8, b' ');
         self.number(header.mode % 16, b' ');
-        self.number(size, b'\n');
+        self.number(object.body.len() as u8, b'\n');
     }
 
     // Puts the line of a container that is refused.

@@ -1,28 +1,15 @@
-use Rattle.std.proofs.Common.{refl, sym, ◌∙◌}
-use Rattle.listing.proofs.LineLaws.{lines_first, lines_found, lines_fit, lines_over}
-use Rattle.wire.proofs.StepLaws.{step_inside}
+use Rattle.std.proofs.Common.{◌∙◌}
+use Rattle.listing.proofs.LineLaws.{lines_fit, lines_more, lines_all}
 use Rattle.listing.proofs.put_lines.Goals as goal
-
-pub loop-header-init : goal.loop-header-init
-loop-header-init c = (refl, rw (c.first-cursor.ensures, c.requires.unused) (lines_first _ _))
-
-pub overflow_sub-end : goal.overflow_sub-end
-overflow_sub-end c = (step_inside _ _ (sym c.next.ensures ∙ c.in-Found.is)).0
-
-pub overflow_cast-end : goal.overflow_cast-end
-overflow_cast-end c =
-    record { fits = (lines_fit c.loop-header.invariant.1 (sym c.next.ensures ∙ c.in-Found.is) c.requires.container_len_bound c.requires.text_room_in_bounds).1 }
 
 pub line-requires : goal.line-requires
 line-requires c =
-    (lines_fit c.loop-header.invariant.1 (sym c.next.ensures ∙ c.in-Found.is) c.requires.container_len_bound c.requires.text_room_in_bounds).0
+    let fit = lines_fit (rw c.in-Some.ensures.steps.0 at c.loop-object.invariant.1) c.requires.few c.requires.text_room_in_bounds in
+    record { room = fit.0; short = fit.1 }
 
-pub loop-header-smaller : goal.loop-header-smaller
-loop-header-smaller c = (step_inside _ _ (sym c.next.ensures ∙ c.in-Found.is)).1.1
+pub loop-object-preserved : goal.loop-object-preserved
+loop-object-preserved c =
+    (c.line.ensures.same_output ∙ c.loop-object.invariant.0, lines_more (rw c.in-Some.ensures.steps.0 at c.loop-object.invariant.1) c.line.ensures.put)
 
-pub loop-header-preserved : goal.loop-header-preserved
-loop-header-preserved c =
-    (c.line.ensures.same_output ∙ c.loop-header.invariant.0, lines_found c.loop-header.invariant.1 (sym c.next.ensures ∙ c.in-Found.is) c.line.ensures.put)
-
-pub returns : goal.returns
-returns c = record { same_output = c.loop-header.invariant.0; put = lines_over _ c.loop-header.invariant.1 c.next.ensures c.in_default.not-Found }
+pub returns-clause-put : goal.returns-clause-put
+returns-clause-put c = lines_all (rw c.in-None.ensures.steps.0.0 at c.loop-object.invariant.1)

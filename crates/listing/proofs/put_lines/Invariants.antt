@@ -1,11 +1,9 @@
 use Rattle.std.proofs.Common.{◌≡◌}
+use Rattle.wire.specs.Front.{front}
 use Rattle.listing.proofs.LineLaws.{Lines}
-use Rattle.wire.proofs.StepLaws.{left}
 use Rattle.listing.proofs.put_lines.Given as goal
 
-abbrev pub invariant-loop-header : goal.invariant-loop-header
-invariant-loop-header l =
-    (l.writer.out.ghost_name ≡ l.fn.writer.out.ghost_name) × Lines l.container l.fn.writer.out.now l.cursor l.writer.used l.writer.out.now
-
-abbrev pub decreases-loop-header : goal.decreases-loop-header
-decreases-loop-header l = left l.container l.cursor
+abbrev pub invariant-loop-object : goal.invariant-loop-object
+invariant-loop-object l =
+    (l.writer.out.ghost_name ≡ l.fn.writer.out.ghost_name)
+    × Lines (front l.bytes) (front l.object-iterator.rest.now) l.fn.writer.out.now l.writer.used l.writer.out.now

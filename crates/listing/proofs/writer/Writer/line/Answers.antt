@@ -1,4 +1,5 @@
 use Rattle.std.proofs.Common.{arith}
+use Rattle.model.specs.Listing.{object_line}
 use Rattle.listing.proofs.PutLaws.{puts_before, puts_short}
 use Rattle.listing.proofs.writer.Writer.line.Goals as goal
 
@@ -21,6 +22,7 @@ pub number-requires-7 : goal.number-requires-7
 number-requires-7 c = omega (arith, puts_short)
 
 pub returns-clause-put : goal.returns-clause-put
+unfolding object_line
 returns-clause-put c =
     puts_before _ c.number.ensures.put
     (puts_before _ c.number-2.ensures.put
