@@ -9,7 +9,7 @@ pub(crate) fn meaning(out: &mut Output, number: u8) -> io::Result<()> {
     write!(out, ": {}", meaning::words(number))
 }
 
-// The index of an object, unless its place says that there is none.
+// The index of an object, unless its place says that there is none, which is 65535 in what C receives.
 pub(crate) fn object_at(place: u16) -> Option<u16> {
     (place != 65535).then_some(place)
 }
@@ -28,7 +28,8 @@ fn verdicts(out: &mut Output, answer: &Answer, count: usize) -> io::Result<()> {
     Ok(())
 }
 
-// Writes the lines of the parent and of the rank.
+// Writes the lines of the parent and of the rank. `Answer`, whose layout C has, says 255 for no parent, and 0 for no refusal and
+// no leaf answer.
 fn parent(out: &mut Output, answer: &Answer) -> io::Result<()> {
     if answer.parent == 255 {
         return writeln!(out, "parent none\nrank none");

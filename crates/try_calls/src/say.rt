@@ -43,7 +43,7 @@ fn verdicts(out: &mut Stdout, given: &Answer, count: usize) -> io::Result<()> {
     Ok(())
 }
 
-// A verdict, and its place if it has one.
+// A verdict, and its place if it has one: 65535 is none in `Answer`, whose layout C has.
 fn verdict(out: &mut Stdout, number: u8, place: u16) -> io::Result<()> {
     write!(out, " {number}")?;
     if place != 65535 {
