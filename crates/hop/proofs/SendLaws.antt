@@ -37,10 +37,12 @@ use Rattle.wire.specs.Walk.{Inside, objects_from}
 use Rattle.wire.proofs.PutLaws.{put_nothing, put_append, put_cons, put_before, put_length}
 use Rattle.wire.proofs.StepLaws.{left, found, split_short, split_end}
 use Rattle.wire.proofs.RunWalkLaws.{start_on, from_start, enter_on, from_enter, from_cut, from_nothing}
-use Rattle.hop.specs.declared.plan.Sent.{Sent}
 use Rattle.hop.specs.declared.sending.Place.{Place}
 use Rattle.hop.specs.declared.sending.Part.{Part}
-use Rattle.hop.specs.Sent.{unfit, sends_objects, sends, sent_of}
+use Rattle.std.specs.Prelude.{Result, Ok, Err}
+use Rattle.std.specs.Result.{result_unwrap_or}
+use Rattle.metric.specs.declared.leaf.Leaf.{Leaf}
+use Rattle.hop.specs.Sent.{Sent, unfit, sends_objects, sends, sent_of, told_by}
 use Rattle.hop.specs.Built.{Fits, FitsPart, Builds, OpensFor, Opens, OpensPart}
 use Rattle.hop.proofs.PackingLaws.{has_room}
 use Rattle.hop.proofs.PlanLaws.{body_next, join_next}
@@ -276,6 +278,11 @@ placed l f e os q =
 
 -- ---- the answer and the output
 
+-- the length that a result tells
+pub size_told : (r : Result ℕ Leaf) → result_unwrap_or r 0 ≡ (told_by r).size
+size_told (Ok n) = refl
+size_told (Err e) = refl
+
 -- without a container the output is untouched
 no_output : (o : Outgoing) (out : List ℕ) → size_of o ≡ 0 → out ≡ output_of o out
 no_output (no_container n) out e = refl
@@ -288,7 +295,7 @@ copied out bs h = sets-eq bs out 0 (omega arith) ∙ rw (zero-add (length bs))
 
 module _ (own : Own) (c : Neighbour) (run out : List ℕ) where
   pub send_unfit : {r : Bool} → r ≡ unfit own c (length out) → r ≡ true
-      → (record { leaf = 0; size = 0 } ≡ sent_of (sends own c run (length out))) × (out ≡ output_of (sends own c run (length out)) out)
+      → (told_by (Ok 0) ≡ sent_of (sends own c run (length out))) × (out ≡ output_of (sends own c run (length out)) out)
   unfolding sends
   send_unfit e t = let u : unfit own c (length out) ≡ true = sym e ∙ t in (rw u, rw u)
 

@@ -11,11 +11,11 @@ ghost use Rattle.model.specs.Choice.{output_of};
 ghost use Rattle.wire.specs.Start.{start_of};
 ghost use Rattle.wire.specs.Step.{object_of};
 ghost use Rattle.wire.specs.Put.{Put};
-ghost use Rattle.hop.specs.Sent.{unfit, sends, sent_of};
+ghost use Rattle.hop.specs.Sent.{unfit, sends, sent_of, told_by};
 ghost use Rattle.hop.specs.Built.{Fits, FitsPart, OpensFor, OpensPart};
 
-use crate::plan::Sent;
 use crate::{bodies, bytes, plan};
+use metric::Leaf;
 use model::{Neighbour, Own};
 use wire::{Cursor, Entry, Header, Start, Step};
 
@@ -247,22 +247,23 @@ fn is_unfit(own: Own, neighbour: Neighbour, room: usize) -> bool
     (3 < own.nodetype) | (7 < neighbour.lql) | (1023 < neighbour.colour) | (room < 2056)
 }
 
-// Writes the containers for the next hop, or answers why there are none. The plan has ruled out every leaf answer before a byte is
-// written.
-pub fn send(own: Own, neighbour: Neighbour, run: &[u8], out: &mut [u8]) -> Sent
-    ensures value { result ≡ sent_of (sends own neighbour run.now (length out.old)) }
+// Writes the containers for the next hop and answers their length, 0 where there is none; or why none is sent on. The plan has ruled out
+// every leaf answer before a byte is written.
+pub fn send(own: Own, neighbour: Neighbour, run: &[u8], out: &mut [u8]) -> Result<u16, Leaf>
+    ensures value { told_by result ≡ sent_of (sends own neighbour run.now (length out.old)) }
     ensures written { out.new ≡ output_of (sends own neighbour run.now (length out.old)) out.old }
 {
     if is_unfit(own, neighbour, out.len()) {
-        return Sent { leaf: 0, size: 0 };
+        return Ok(0);
     }
     let start = wire::start_of(run);
     let sent = plan::plan(own, neighbour, run, start);
-    if sent.size == 0 {
+    let size = sent.unwrap_or(0);
+    if size == 0 {
         return sent;
     }
     let mut built = [0u8; 257];
     built[0] = 2;
-    put_objects(out, &mut built, own, neighbour, run, start, 257 < sent.size);
+    put_objects(out, &mut built, own, neighbour, run, start, 257 < size);
     sent
 }

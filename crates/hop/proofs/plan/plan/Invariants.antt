@@ -7,8 +7,8 @@ use Rattle.wire.proofs.RunWalkLaws.{enter_on}
 use Rattle.hop.proofs.PlanLaws.{Planning, planning_first, planning_short, planning_enter, planning_cut, planning_end}
 use Rattle.hop.proofs.plan.plan.Given as goal
 
-abbrev pub invariant-loop-own : goal.invariant-loop-own
-invariant-loop-own l = Planning l.own l.neighbour l.run l.end l.cursor l.p
+abbrev pub invariant-loop-planned : goal.invariant-loop-planned
+invariant-loop-planned l = Planning l.own l.neighbour l.run l.end l.cursor l.p
 
-abbrev pub decreases-loop-own : goal.decreases-loop-own
-decreases-loop-own l = left l.run l.cursor
+abbrev pub decreases-loop-planned : goal.decreases-loop-planned
+decreases-loop-planned l = left l.run l.cursor

@@ -25,7 +25,7 @@ loop-header-preserved c =
     (c.plan_object-planned.ensures.small, λ es q. passing_found _ _ _ _ es _ _ (c.loop-header.invariant.1 es q) (sym c.next.ensures ∙ c.in-Found.is) c.plan_object-planned.ensures.planned)
 
 pub returns-in-CutShort : goal.returns-in-CutShort
-returns-in-CutShort c = record { small = c.loop-header.invariant.0; planned = λ es q. passing_short _ _ _ _ es _ _ (c.loop-header.invariant.1 es q) (sym c.next.ensures ∙ c.in-CutShort.is) }
+returns-in-CutShort c = λ es q. passing_short _ _ _ _ es _ _ (c.loop-header.invariant.1 es q) (sym c.next.ensures ∙ c.in-CutShort.is)
 
 pub returns-in-End : goal.returns-in-End
-returns-in-End c = record { small = c.loop-header.invariant.0; planned = λ es q. passing_end _ _ _ _ es _ _ (c.loop-header.invariant.1 es q) (sym c.next.ensures ∙ c.in-End.is) }
+returns-in-End c = λ es q. passing_end _ _ _ _ es _ _ (c.loop-header.invariant.1 es q) c.loop-header.invariant.0 (sym c.next.ensures ∙ c.in-End.is)
