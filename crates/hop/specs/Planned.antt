@@ -1,6 +1,5 @@
 -- Inside the crate: objects by containers, before a byte is written.
-use Rattle.std.specs.Prelude.{◌≡◌, ℕ, ◌*◌, ◌≤◌, List, ◌++◌, map, ltb, length, None, Some}
-use Rattle.std.proofs.Math.Option.{Option, none, some}
+use Rattle.std.specs.Prelude.{◌≡◌, ℕ, ◌*◌, ◌≤◌, List, ◌++◌, map, ltb, length}
 use Rattle.model.specs.declared.Own.{Own}
 use Rattle.model.specs.declared.Neighbour.{Neighbour}
 use Rattle.model.specs.Number.{first_of}
@@ -40,12 +39,3 @@ pub record Fills (f : Filled) (os : List Object) : Type 0 where
 pub record Plans (own : Own) (c : Neighbour) (p : Planned) (es : List Object) : Type 0 where
   pub leaf : leaf_number p.leaf ≡ first_of (object_leaf own c) es
   pub fills : Fills p.filled (update own c es)
-
--- what is known behind a container, or none where an object of it is cut short
-abbrev pub Passed : Type 0
-Passed = Rattle.std.specs.Prelude.Option Planned
-
--- objects behind those that are planned: they are planned too, or one is cut short
-abbrev pub Passes : Own → Neighbour → Passed → (before : List Object) → (behind : Option (List Object)) → Type 0
-Passes own c r es none = r ≡ None
-Passes own c r es (some os) = (p : Planned) × (r ≡ Some p) × Small p.filled × Plans own c p (es ++ os)

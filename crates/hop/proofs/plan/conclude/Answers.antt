@@ -1,7 +1,5 @@
 use mathlib.Core.Path.{ap}
-use native.Mathlib.Omega.{arith}
 use Rattle.metric.specs.Leaf.{leaf_number}
-use Rattle.hop.proofs.PackingLaws.{small_size}
 use Rattle.hop.proofs.PlanLaws.{ends_leaf, ends_long, ends_fits}
 use Rattle.hop.proofs.plan.conclude.Goals as goal
 

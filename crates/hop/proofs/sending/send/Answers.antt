@@ -1,5 +1,5 @@
 use mathlib.Core.Path.{sym, ◌∙◌}
-use Rattle.hop.proofs.SendLaws.{size_told, send_unfit, fit_bounds, send_nothing, sends_fits, send_put}
+use Rattle.hop.proofs.SendLaws.{size_told, send_unfit, send_nothing, sends_fits, send_put}
 use Rattle.hop.proofs.sending.send.Goals as goal
 
 pub returns-then-is_unfit : goal.returns-then-is_unfit
