@@ -14,8 +14,7 @@ use Rattle.model.specs.declared.Answer.{Answer}
 use Rattle.model.specs.Choice.{refusal, Outgoing, no_parent, parent_of, rank_of, output_of, outgoing, Result, choice_of, unless_refused, call}
 use Rattle.model.proofs.Refusals.{refusal_is}
 use Rattle.model.proofs.CallLaws.{call_is, unrefused}
-use Rattle.hop.specs.declared.plan.Sent.{Sent}
-use Rattle.hop.specs.Sent.{sent_of, sends}
+use Rattle.hop.specs.Sent.{Sent, sent_of, sends}
 use Rattle.choice.specs.Given.{given}
 use Rattle.choice.specs.Demand3.{Returned}
 use Rattle.choice.specs.Answered.{refused_answer, no_rank, nothing, answer_with}

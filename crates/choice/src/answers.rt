@@ -3,7 +3,6 @@ ghost use Rattle.std.specs.Prelude.{◌≡◌, ◌^◌, ◌<◌};
 ghost use Rattle.model.specs.Choice.{no_parent};
 ghost use Rattle.choice.specs.Answered.{refused_answer, no_rank, nothing, answer_with};
 
-use hop::Sent;
 use model::{Answer, Rank};
 
 // The bit of the candidate at a position, in its place.
@@ -38,9 +37,10 @@ pub(crate) fn answered(
     verdicts: [u8; 16],
     places: [u16; 16],
     bits: u16,
-    sent: Sent,
+    leaf: u8,
+    size: u16,
 ) -> Answer
-    ensures { result ≡ answer_with parent rank verdicts places bits sent }
+    ensures { result ≡ answer_with parent rank verdicts places bits (record { leaf = leaf; size = size }) }
 {
     Answer {
         refusal: 0,
@@ -50,8 +50,8 @@ pub(crate) fn answered(
         places,
         bits,
         count: u16::count_ones(bits) as u8,
-        leaf: sent.leaf,
-        size: sent.size,
+        leaf,
+        size,
     }
 }
 
@@ -59,12 +59,5 @@ pub(crate) fn answered(
 pub(crate) fn without_parent(verdicts: [u8; 16], places: [u16; 16], bits: u16) -> Answer
     ensures { result ≡ answer_with no_parent no_rank verdicts places bits nothing }
 {
-    answered(
-        255,
-        Rank(65535),
-        verdicts,
-        places,
-        bits,
-        Sent { leaf: 0, size: 0 },
-    )
+    answered(255, Rank(65535), verdicts, places, bits, 0, 0)
 }

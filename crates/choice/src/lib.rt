@@ -62,8 +62,18 @@ pub fn call(
             let c = candidates[at];
             let start = c.start;
             let end = start + c.size;
-            let sent = hop::send(own, c.neighbour, &lent[start..end], out);
-            answers::answered(position, offer.rank, numbers, places, bits, sent)
+            match hop::send(own, c.neighbour, &lent[start..end], out) {
+                Ok(size) => answers::answered(position, offer.rank, numbers, places, bits, 0, size),
+                Err(leaf) => answers::answered(
+                    position,
+                    offer.rank,
+                    numbers,
+                    places,
+                    bits,
+                    leaf.number(),
+                    0,
+                ),
+            }
         }
     }
 }

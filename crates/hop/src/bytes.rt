@@ -4,17 +4,14 @@ ghost use Rattle.model.specs.Number.{big_endian};
 ghost use Rattle.wire.specs.Put.{Put};
 
 // Puts a run of bytes.
+#[inline(never)]
 pub(crate) fn put_bytes(out: &mut [u8], at: usize, bytes: &[u8]) -> usize
     requires { at + length bytes.now ≤ length out.old }
     ensures { Put out.old at bytes.now result out.new }
 {
-    let n = bytes.len();
-    let mut i: usize = 0;
-    while i < n {
-        out[at + i] = bytes[i];
-        i += 1;
-    }
-    at + n
+    let end = at + bytes.len();
+    out[at..end].copy_from_slice(bytes);
+    end
 }
 
 // Puts a body whose first two bytes are changed.

@@ -1,5 +1,5 @@
-use mathlib.Core.Path.{◌≡◌, sym, ◌∙◌}
-use Prim.Native.Nat.{◌+◌, ◌-◌, ◌≤◌, ◌<◌}
+use mathlib.Core.Path.{◌≡◌, sym, ap, ◌∙◌}
+use Prim.Native.Nat.{ℕ, ◌+◌, ◌-◌, ◌≤◌, ◌<◌}
 use native.Mathlib.Omega.{arith}
 use borrow.Author.Rules.{rules}
 use lib.ListN.{length, get_or, take}
@@ -9,7 +9,12 @@ use Rattle.choice.specs.Given.{blank}
 use Rattle.choice.proofs.PassLaws.{Pass, gathered_none, pass_barred, pass_unbarred, pass_end}
 use Rattle.choice.proofs.ParentLaws.{parent_at, parent_inside}
 use Rattle.choice.proofs.ReturnLaws.{runs, refused_returns, nobody_returns, parent_returns, as_returned}
+use Rattle.hop.specs.Sent.{Sent}
 use Rattle.choice.proofs.call.Goals as goal
+
+-- a leaf answer, by its number
+abbrev sent_by : ℕ → Sent
+sent_by n = record { leaf = n; size = 0 }
 
 pub returns-then-refusal-ne0 : goal.returns-then-refusal-ne0
 returns-then-refusal-ne0 c =
@@ -58,8 +63,15 @@ returns-in-Nobody c =
     (pass_end c.loop-i.invariant c.loop-i-test.false) c.in-Nobody.is c.without_parent.ensures) in
     record { value = all.0; written = all.1.0; returned = all.1.1 }
 
-pub returns-in-Parent : goal.returns-in-Parent
-returns-in-Parent c =
+pub returns-in-Ok : goal.returns-in-Ok
+returns-in-Ok c =
     let all = as_returned (parent_returns c.args.own c.args.candidates c.args.count c.args.lent.now c.args.out.now c.refusal_of-refusal.ensures c.if-refusal-ne0.false c.loop-i.invariant.array
-    (pass_end c.loop-i.invariant c.loop-i-test.false) blank _ _ c.in-Parent.is (c.send-sent.ensures.value, c.send-sent.ensures.written) c.answered.ensures) in
+    (pass_end c.loop-i.invariant c.loop-i-test.false) blank _ _ c.in-Parent.is (c.in-Ok.ensures.value, c.in-Ok.ensures.written) c.answered.ensures) in
+    record { value = all.0; written = all.1.0; returned = all.1.1 }
+
+pub returns-in-Err : goal.returns-in-Err
+returns-in-Err c =
+    let told = ap sent_by c.number.ensures ∙ c.in-Err.ensures.value in
+    let all = as_returned (parent_returns c.args.own c.args.candidates c.args.count c.args.lent.now c.args.out.now c.refusal_of-refusal.ensures c.if-refusal-ne0.false c.loop-i.invariant.array
+    (pass_end c.loop-i.invariant c.loop-i-test.false) blank _ _ c.in-Parent.is (told, c.in-Err.ensures.written) c.answered-in-Err.ensures) in
     record { value = all.0; written = all.1.0; returned = all.1.1 }
