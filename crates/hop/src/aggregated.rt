@@ -35,7 +35,7 @@ fn put_field_4(out: &mut [u8], at: usize, a: u8, v: u32, body: &[u8]) -> usize
     if body.len() != 4 {
         return bytes::put_bytes(out, at, body);
     }
-    bytes::put_4(
+    bytes::put_number::<4>(
         out,
         at,
         metric::combine(a, 4294967295, wire::number_4(body), v),
@@ -50,7 +50,7 @@ fn put_field_2(out: &mut [u8], at: usize, a: u8, v: u32, body: &[u8]) -> usize
     if body.len() != 2 {
         return bytes::put_bytes(out, at, body);
     }
-    bytes::put_2(
+    bytes::put_number::<2>(
         out,
         at,
         metric::combine(a, 65535, wire::number_2(body) as u32, v),

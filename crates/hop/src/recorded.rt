@@ -9,24 +9,14 @@ ghost use Rattle.wire.specs.Put.{Put};
 use crate::parent::Hop;
 use crate::{bytes, colours, levels};
 
-// Puts the link's value as a sub-object of four bytes, where it is known.
-fn put_sub_4(out: &mut [u8], at: usize, q: Option<u32>) -> usize
-    requires { at + length (sub_object 4 q) ≤ length out.old }
-    ensures { Put out.old at (sub_object 4 q) result out.new }
+// Puts the link's value as a sub-object of WIDTH bytes, where it is known.
+fn put_sub<const WIDTH: usize>(out: &mut [u8], at: usize, q: Option<u32>) -> usize
+    requires width { WIDTH ≤ 4 }
+    requires room { at + length (sub_object WIDTH q) ≤ length out.old }
+    ensures { Put out.old at (sub_object WIDTH q) result out.new }
 {
     match q {
-        Some(v) => bytes::put_4(out, at, v),
-        None => at,
-    }
-}
-
-// Puts the link's value as a sub-object of two bytes, where it is known.
-fn put_sub_2(out: &mut [u8], at: usize, q: Option<u32>) -> usize
-    requires { at + length (sub_object 2 q) ≤ length out.old }
-    ensures { Put out.old at (sub_object 2 q) result out.new }
-{
-    match q {
-        Some(v) => bytes::put_2(out, at, v),
+        Some(v) => bytes::put_number::<WIDTH>(out, at, v),
         None => at,
     }
 }
@@ -96,12 +86,12 @@ pub(crate) fn put_recorded(out: &mut [u8], at: usize, hop: Hop, mctype: u8, body
     }
     let q = metric::link_value(hop.neighbour, mctype);
     if mctype == 4 {
-        let end = put_sub_4(out, at, q);
+        let end = put_sub::<4>(out, at, q);
         return bytes::put_bytes(out, end, body);
     }
     let end = bytes::put_bytes(out, at, body);
     if mctype == 7 {
-        return put_sub_2(out, end, q);
+        return put_sub::<2>(out, end, q);
     }
-    put_sub_4(out, end, q)
+    put_sub::<4>(out, end, q)
 }

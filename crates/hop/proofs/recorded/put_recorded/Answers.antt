@@ -33,37 +33,37 @@ put_coloured-requires c = record { colour_bound = c.args.hop.colour_fits; body_i
 pub returns-then-mctype-eq8 : goal.returns-then-mctype-eq8
 returns-then-mctype-eq8 c = rw (recorded_colours _ _ _ _ c.if-mctype-eq2.false c.if-mctype-eq6.false c.if-mctype-eq8.true) c.put_coloured.ensures
 
-pub put_sub_4-end-requires : goal.put_sub_4-end-requires
-put_sub_4-end-requires c =
+pub put_sub-end-requires-clause-room : goal.put_sub-end-requires-clause-room
+put_sub-end-requires-clause-room c =
     let args = c.args in
     room_first args.at (sub_object 4 c.link_value-q.result) args.body.now (recorded_before args.hop.own _ _ _ c.if-mctype-eq2.false c.if-mctype-eq6.false c.if-mctype-eq8.false c.link_value-q.ensures c.if-mctype-eq4.true) c.requires.body_in_bounds
 
 pub put_bytes-requires : goal.put_bytes-requires
 put_bytes-requires c =
     let args = c.args in
-    room_second args.at (sub_object 4 c.link_value-q.result) args.body.now (recorded_before args.hop.own _ _ _ c.if-mctype-eq2.false c.if-mctype-eq6.false c.if-mctype-eq8.false c.link_value-q.ensures c.if-mctype-eq4.true) c.requires.body_in_bounds c.put_sub_4-end.ensures
+    room_second args.at (sub_object 4 c.link_value-q.result) args.body.now (recorded_before args.hop.own _ _ _ c.if-mctype-eq2.false c.if-mctype-eq6.false c.if-mctype-eq8.false c.link_value-q.ensures c.if-mctype-eq4.true) c.requires.body_in_bounds c.put_sub-end.ensures
 
 pub returns-then-mctype-eq4 : goal.returns-then-mctype-eq4
 returns-then-mctype-eq4 c =
-    rw (recorded_before _ _ _ _ c.if-mctype-eq2.false c.if-mctype-eq6.false c.if-mctype-eq8.false c.link_value-q.ensures c.if-mctype-eq4.true) (put_append c.put_sub_4-end.ensures c.put_bytes.ensures)
+    rw (recorded_before _ _ _ _ c.if-mctype-eq2.false c.if-mctype-eq6.false c.if-mctype-eq8.false c.link_value-q.ensures c.if-mctype-eq4.true) (put_append c.put_sub-end.ensures c.put_bytes.ensures)
 
 pub put_bytes-end-requires : goal.put_bytes-end-requires
 put_bytes-end-requires c = recorded_room c.args.hop.own _ _ _ _ c.if-mctype-eq2.false c.if-mctype-eq6.false c.if-mctype-eq8.false c.link_value-q.ensures c.if-mctype-eq4.false c.requires.body_in_bounds
 
-pub put_sub_2-requires : goal.put_sub_2-requires
-put_sub_2-requires c =
+pub put_sub-requires-clause-room : goal.put_sub-requires-clause-room
+put_sub-requires-clause-room c =
     let args = c.args in
     room_second args.at args.body.now (sub_object 2 c.link_value-q.result) (recorded_2 args.hop.own _ _ _ c.if-mctype-eq2.false c.if-mctype-eq6.false c.if-mctype-eq8.false c.link_value-q.ensures c.if-mctype-eq4.false c.if-mctype-eq7.true) c.requires.body_in_bounds c.put_bytes-end.ensures
 
 pub returns-then-mctype-eq7 : goal.returns-then-mctype-eq7
 returns-then-mctype-eq7 c =
-    rw (recorded_2 _ _ _ _ c.if-mctype-eq2.false c.if-mctype-eq6.false c.if-mctype-eq8.false c.link_value-q.ensures c.if-mctype-eq4.false c.if-mctype-eq7.true) (put_append c.put_bytes-end.ensures c.put_sub_2.ensures)
+    rw (recorded_2 _ _ _ _ c.if-mctype-eq2.false c.if-mctype-eq6.false c.if-mctype-eq8.false c.link_value-q.ensures c.if-mctype-eq4.false c.if-mctype-eq7.true) (put_append c.put_bytes-end.ensures c.put_sub.ensures)
 
-pub put_sub_4-requires : goal.put_sub_4-requires
-put_sub_4-requires c =
+pub put_sub-requires-2-clause-room : goal.put_sub-requires-2-clause-room
+put_sub-requires-2-clause-room c =
     let args = c.args in
     room_second args.at args.body.now (sub_object 4 c.link_value-q.result) (recorded_4 args.hop.own _ _ _ c.if-mctype-eq2.false c.if-mctype-eq6.false c.if-mctype-eq8.false c.link_value-q.ensures c.if-mctype-eq4.false c.if-mctype-eq7.false) c.requires.body_in_bounds c.put_bytes-end.ensures
 
 pub returns : goal.returns
 returns c =
-    rw (recorded_4 _ _ _ _ c.if-mctype-eq2.false c.if-mctype-eq6.false c.if-mctype-eq8.false c.link_value-q.ensures c.if-mctype-eq4.false c.if-mctype-eq7.false) (put_append c.put_bytes-end.ensures c.put_sub_4.ensures)
+    rw (recorded_4 _ _ _ _ c.if-mctype-eq2.false c.if-mctype-eq6.false c.if-mctype-eq8.false c.link_value-q.ensures c.if-mctype-eq4.false c.if-mctype-eq7.false) (put_append c.put_bytes-end.ensures c.put_sub-2.ensures)
