@@ -1,7 +1,7 @@
 -- The pass over a run's options for bars 22 and 23.
 use mathlib.Core.Path.{◌≡◌, refl, sym, ap, ◌∙◌}
 use Prim.Native.Nat.{ℕ, zero, suc, ◌+◌, ◌-◌, ◌≤◌, ◌<◌}
-use native.Mathlib.Nat.{zero-add, add-zero}
+use native.Mathlib.Nat.{zero-add}
 use native.Mathlib.Omega.{arith}
 use mathlib.Core.Bool.{Bool, true, false, cond, not, ◌&&◌, ◌||◌, true≢false}
 use mathlib.Core.List.{List, [], ◌∷◌}
@@ -18,7 +18,7 @@ use Rattle.model.specs.declared.verdicts.ObjectBar.TheVariants as at
 use Rattle.model.specs.Bars.{object_bar_number, bar_number, bar_place}
 use Rattle.model.specs.Reading.{no_place, is_none, misframed, refused, read_objects}
 use Rattle.model.specs.Cut.{keep_if}
-use Rattle.model.specs.Run.{RplOption, option, is_container, leading, options_up_to, options, containers, objects_of, options_in, joined_objects, option_cut, ninth_container, run_objects, read_run}
+use Rattle.model.specs.Run.{RplOption, option, is_container, options, containers, objects_of, options_in, joined_objects, option_cut, ninth_container, run_objects, read_run}
 use Rattle.model.proofs.RunLaws.{framed_clear}
 use Rattle.wire.specs.Reading.{Refused}
 use Rattle.wire.specs.Frame.{ninth_bar, frame_from, frame_bar}

@@ -1,20 +1,18 @@
 -- One object more behind others: the first bar, its index, what they tell.
-use mathlib.Core.Path.{◌≡◌, refl, sym, ap, subst, ◌∙◌}
-use Prim.Native.Nat.{ℕ, zero, suc, ◌+◌, ◌≤◌}
+use mathlib.Core.Path.{◌≡◌, refl, sym, ap, ◌∙◌}
+use Prim.Native.Nat.{ℕ, suc}
 use native.Mathlib.Omega.{arith}
-use mathlib.Core.Bool.{Bool, false, ◌||◌, or-false}
+use mathlib.Core.Bool.{Bool, ◌||◌, or-false}
 use mathlib.Core.List.{List, [], ◌∷◌, ◌++◌, append_assoc, append-nil}
 use lib.ListN.{length, length-append}
 use Rattle.model.specs.Number.{any_of, first, first_of, index_of}
 use Rattle.model.specs.Object.{Object, standings}
-use Rattle.model.specs.Reading.{same_use, object_bar, read_as}
+use Rattle.model.specs.Reading.{object_bar}
 use Rattle.model.specs.Constraint.{from_first, summary, mandatory}
-use Rattle.model.proofs.FirstLaws.{first_snoc, index_none, index_snoc, index_le, standings_snoc, length-standings}
+use Rattle.model.proofs.FirstLaws.{first_snoc, index_none, index_snoc, standings_snoc, length-standings}
 use Rattle.model.proofs.ListLaws.{any_append}
 use Rattle.wire.specs.declared.gathered.Gathered.{Gathered}
 use Rattle.model.specs.declared.Summary.{Summary}
-use Rattle.model.specs.declared.verdicts.ObjectBar.{ObjectBar}
-use Rattle.model.specs.Bars.{object_bar_number}
 use Rattle.wire.specs.Reading.{Refused, WellFormed}
 use Rattle.wire.specs.Row.{has_bit}
 use Rattle.wire.specs.Seen.{seen_from, with_use, has_use, bar_by}
@@ -24,7 +22,6 @@ use Rattle.wire.specs.Step.{object_of}
 use Rattle.wire.specs.Gathered.{Gathers, With, untold, whole_reading}
 use Rattle.wire.specs.Reading.{reading_of}
 use Rattle.wire.proofs.SeenLaws.{seen_snoc, seen_exact}
-use Rattle.wire.proofs.ToldLaws.{told_snoc}
 
 -- the bar and the index among objects
 abbrev bar_among : List Object → ℕ

@@ -1,6 +1,6 @@
 -- The reading pass among a run's objects, and where it ends.
-use Rattle.std.proofs.Common.{◌≡◌, refl, ap, sym, ◌∙◌, ℕ, suc, ◌+◌, ◌≤◌, ◌<◌, true, false, List, [], ◌∷◌, ◌++◌, length, get_or, arith}
-use Rattle.std.specs.Prelude.{Err, Ok}
+use Rattle.std.proofs.Common.{◌≡◌, refl, ap, ℕ, ◌≤◌, ◌<◌, true, false, List, [], ◌∷◌, ◌++◌, length, get_or, arith}
+use Rattle.std.specs.Prelude.{Err}
 use Rattle.std.proofs.Math.Option.{Option, none, some}
 use mathlib.Core.Bool.{true≢false}
 use mathlib.Core.List.{append_assoc}

@@ -1,6 +1,6 @@
 -- The rows of the table by type number.
 use mathlib.Core.Path.{◌≡◌, refl, sym, ◌∙◌}
-use Prim.Native.Nat.{ℕ, zero, suc, ◌/◌, ◌%◌, ◌≤◌, ◌<◌, ◌^◌}
+use Prim.Native.Nat.{ℕ, zero, suc, ◌≤◌, ◌<◌, ◌^◌}
 use native.Mathlib.Nat.{div-eq_of_lt, pow-suc}
 use native.Mathlib.Omega.{arith}
 use mathlib.Core.Bool.{Bool, true, false, beq, ◌&&◌, not, false≢true}
@@ -11,10 +11,9 @@ use borrow.Author.Tests.{leb-true, ltb-true, ltb-false, ne_eqb, not-true}
 use Rattle.model.specs.Number.{any_of}
 use Rattle.model.specs.Object.{Kind, unknown, lql, colour, node, scalar, nsa, ne, hp, throughput, latency, etx, kind_of, known}
 use Rattle.model.specs.Table.{row, allowed}
-use Rattle.model.specs.Cut.{may_have_tlvs}
 use Rattle.model.proofs.BoolLaws.{both, neither}
 use Rattle.model.proofs.NumberLaws.{all_below, below_all}
-use Rattle.model.proofs.TypeLaws.{beq-true, every_kind, by_type, known_types, tlv_types}
+use Rattle.model.proofs.TypeLaws.{beq-true, every_kind, by_type, known_types}
 use Rattle.wire.specs.declared.metric_type.MetricType.{MetricType}
 use Rattle.wire.specs.declared.metric_type.MetricType.TheVariants as code
 use Rattle.wire.specs.MetricType.{kind_in}

@@ -1,6 +1,6 @@
 -- What an object behind others tells the tests of constraints, by the tests that code makes.
 use mathlib.Core.Path.{◌≡◌, refl, sym, ◌∙◌}
-use Prim.Native.Nat.{ℕ, suc}
+use Prim.Native.Nat.{ℕ}
 use native.Mathlib.Omega.{arith}
 use mathlib.Core.Bool.{Bool, true, false, cond, ◌&&◌, and-false, true≢false}
 use mathlib.Core.List.{List, [], ◌∷◌, ◌++◌}
@@ -12,7 +12,7 @@ use Rattle.model.specs.Number.{any_of, number}
 use Rattle.model.specs.Object.{Object, field_a, Scalar, latency, etx, type_of, kind_of, known, kind, constraint, recorded, aggregated, role, is_aggregated, is_hp}
 use Rattle.model.specs.Table.{row}
 use Rattle.model.specs.Reading.{cannot_be, same_use}
-use Rattle.model.specs.Constraint.{hop_count, counts_hops, adds_up, path_value, summary}
+use Rattle.model.specs.Constraint.{counts_hops, adds_up, summary}
 use Rattle.model.proofs.TypeLaws.{hp_type, no_hops, no_adds, unknown_hops, unknown_adds}
 use Rattle.model.proofs.SummaryLaws.{from_same, from_snoc, hops_use, adds_use}
 use Rattle.model.specs.declared.Summary.{Summary}

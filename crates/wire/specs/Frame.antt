@@ -1,5 +1,5 @@
 -- Inside the crate: the bars of a run by its options alone.
-use Rattle.std.specs.Prelude.{◌≡◌, ℕ, ◌+◌, cond, List, length, ltb, Result, Ok, Err}
+use Rattle.std.specs.Prelude.{ℕ, ◌+◌, cond, List, length, ltb, Result, Ok, Err}
 use Rattle.model.specs.declared.verdicts.Bar.{Bar}
 use Rattle.model.specs.Bars.{bar_number, bar_place}
 use Rattle.std.proofs.Math.Option.{Option, none, some}

@@ -1,7 +1,7 @@
 -- The model's row of a type, as code has it.
-use Rattle.std.specs.Prelude.{◌≡◌, ℕ, ◌+◌, ◌-◌, ◌*◌, ◌/◌, ◌%◌, ◌^◌, Bool, cond, List, [], ◌∷◌}
+use Rattle.std.specs.Prelude.{◌≡◌, ℕ, ◌+◌, ◌/◌, ◌%◌, ◌^◌, Bool, List, [], ◌∷◌}
 use Rattle.model.specs.Number.{is_set}
-use Rattle.model.specs.Object.{Kind, kind_of, known}
+use Rattle.model.specs.Object.{Kind, kind_of}
 use Rattle.model.specs.Table.{row, allowed}
 use Rattle.wire.specs.declared.table.Row.{Row}
 
@@ -21,10 +21,6 @@ row_in k = record { base = (row k).base; tlvs = (row k).tlvs; records = (row k).
 -- the row of a type
 unfoldable pub row_for : (type : ℕ) → Row
 row_for t = row_in (kind_of t)
-
--- the byte of a type in a number that has one for each known type, that of type 1 the lowest; 0 for a type that is not known
-abbrev pub byte_for : (table type : ℕ) → ℕ
-byte_for n t = cond (known (kind_of t)) (n / 2 ^ ((t - 1) * 8) % 256) 0
 
 -- bit a of a type's mask is 1 exactly where the model's table allows A = a
 abbrev pub MasksExact : Type 0

@@ -1,8 +1,7 @@
 // The table of the types: the shape of each type's body, and what its metric can be (RFC 6551, sections 3 and 4).
 ghost use Rattle.std.specs.Prelude.{◌≡◌};
-ghost use Rattle.model.specs.Object.{known, kind_of};
 ghost use Rattle.wire.specs.MetricType.{kind_in};
-ghost use Rattle.wire.specs.Row.{row_in, row_for};
+ghost use Rattle.wire.specs.Row.{row_in};
 
 use crate::metric_type::MetricType;
 

@@ -1,7 +1,6 @@
 use mathlib.Core.Path.{◌≡◌, sym, ◌∙◌}
 use mathlib.Core.Bool.{true, false}
 use borrow.Author.Rules.{rules}
-use borrow.Author.Tests.{not-true, not-false}
 use Rattle.model.specs.Object.{kind, role}
 use Rattle.model.specs.Table.{row}
 use Rattle.model.specs.Reading.{cannot_be, shaped}

@@ -1,5 +1,3 @@
-use Rattle.std.proofs.Common.{List}
-use Rattle.model.specs.Object.{Object}
 use Rattle.wire.proofs.PassLaws.{Reaches, Within}
 use Rattle.wire.proofs.container.is_whole.Given as goal
 

@@ -1,5 +1,4 @@
 use mathlib.Core.Path.{sym, ◌∙◌}
-use borrow.Author.Rules.{rules}
 use borrow.Author.Tests.{not-true, not-false}
 use Rattle.wire.proofs.ReadLaws.{read_13, read_framed}
 use Rattle.wire.proofs.container.read.Goals as goal

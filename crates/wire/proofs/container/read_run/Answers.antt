@@ -1,4 +1,4 @@
-use mathlib.Core.Path.{sym, ◌∙◌}
+use mathlib.Core.Path.{◌∙◌}
 use borrow.Author.Rules.{rules}
 use Rattle.wire.proofs.FrameLaws.{bar_refused, frame_clear}
 use Rattle.wire.proofs.container.read_run.Goals as goal

@@ -1,7 +1,7 @@
 use mathlib.Core.Path.{sym, ◌∙◌}
 use borrow.Author.Tests.{not-true, lt-ltb, le-ltb}
 use borrow.Author.Rules.{rules}
-use Rattle.wire.proofs.FrameLaws.{frame_whole, counted_start, counted_on, counted_room, counted_cut, counted_all}
+use Rattle.wire.proofs.FrameLaws.{frame_whole, counted_room, counted_cut, counted_all}
 use Rattle.wire.proofs.containers.check.Goals as goal
 
 pub returns-then-is_framed-clause-number : goal.returns-then-is_framed-clause-number

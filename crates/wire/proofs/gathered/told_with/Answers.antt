@@ -1,6 +1,5 @@
 use mathlib.Core.Path.{sym, ◌∙◌, refl}
-use borrow.Author.Rules.{rules}
-use borrow.Author.Tests.{eq-eqb, ne_eqb}
+use borrow.Author.Tests.{eq-eqb}
 use Rattle.wire.specs.Front.{seen}
 use Rattle.wire.proofs.HeaderLaws.{role_constraint, role_recorded, role_aggregated}
 use Rattle.wire.proofs.NumberLaws.{number_two, number_four}

@@ -1,9 +1,14 @@
 use mathlib.Core.Path.{sym, ◌∙◌}
-use Rattle.wire.proofs.NumberLaws.{number_in_lem, number_none}
+use native.Mathlib.Omega.{arith}
+use Rattle.wire.proofs.NumberLaws.{number_in_lem, number_none, number_four}
 use Rattle.wire.proofs.numbers.number_4.Goals as goal
 
-pub returns-then-body-ne4 : goal.returns-then-body-ne4
-returns-then-body-ne4 c = number_none 4 _ c.if-body-ne4.true
+pub returns-in-len4 : goal.returns-in-len4
+returns-in-len4 c =
+    c.from_be_bytes.ensures ∙ number_four _ c.in-len4.len_at_least c.in-len4.len_below ∙ sym (number_in_lem 4 _ (omega (arith, c.in-len4.len_at_least, c.in-len4.len_below)))
 
-pub returns : goal.returns
-returns c = c.four.ensures ∙ sym (number_in_lem 4 _ c.if-body-ne4.false)
+pub returns-in_default : goal.returns-in_default
+returns-in_default c = number_none 4 _ (λ e. omega (arith, e, c.in_default.len_below))
+
+pub returns-in_default-2 : goal.returns-in_default-2
+returns-in_default-2 c = number_none 4 _ (λ e. omega (arith, e, c.in_default.len_at_least))

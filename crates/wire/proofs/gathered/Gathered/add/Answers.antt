@@ -1,7 +1,6 @@
 use mathlib.Core.Path.{◌≡◌, refl, sym, ◌∙◌}
 use mathlib.Core.Bool.{true, false}
 use borrow.Author.Rules.{rules}
-use borrow.Author.Tests.{not-true, not-false}
 use Rattle.model.specs.Object.{kind, known}
 use Rattle.model.proofs.TabledLaws.{bar_free}
 use Rattle.wire.specs.Front.{seen}
