@@ -1,9 +1,8 @@
 -- Every leaf answer is given exactly when document 01 says, for a parent with given objects.
 use mathlib.Core.Path.{◌≡◌, refl, sym, ◌∙◌}
-use Prim.Native.Nat.{ℕ, zero, suc, ◌+◌, ◌/◌, ◌%◌, ◌≤◌}
+use Prim.Native.Nat.{ℕ, zero, suc, ◌+◌, ◌/◌, ◌%◌}
 use lib.ListN.{length}
 use lib.Dec.{ltb, eqb}
-use borrow.Author.Tests.{ltb-false}
 use native.Mathlib.Omega.{arith}
 use mathlib.Core.Bool.{Bool, true, false, ◌&&◌, ◌||◌, and_assoc, and-false, or-false, false≢true, true≢false}
 use mathlib.Core.List.{List, [], ◌∷◌, map}
@@ -11,7 +10,7 @@ use mathlib.Core.Logic.{◌↔◌}
 use Rattle.model.specs.declared.Own.{Own}
 use Rattle.model.specs.declared.Neighbour.{Neighbour}
 use Rattle.model.specs.Number.{is_set, number, any_of, ◌when◌, first_case, first, first_of, index_of}
-use Rattle.model.specs.Object.{Object, field_a, join, kind_of, role_of}
+use Rattle.model.specs.Object.{Object, field_a, kind_of, role_of}
 use Rattle.model.specs.Constraint.{link_value}
 use Rattle.model.specs.Update.{unknown_aggregated, not_allowed, no_value, full_count, is_beyond, overflows, leaf_cases, object_leaf, too_long, leaf_answer, update}
 use Rattle.model.specs.Pack.{unpackable}

@@ -1,21 +1,21 @@
 -- Objects by containers: what is written reads back, and the cut needs no more containers.
 use mathlib.Core.Path.{◌≡◌, refl, sym, ap, ◌∙◌}
-use Prim.Native.Nat.{ℕ, zero, suc, ◌+◌, ◌*◌, ◌≤◌, ◌<◌}
-use mathlib.Core.Bool.{Bool, true, false, cond, ◌||◌}
+use Prim.Native.Nat.{ℕ, suc, ◌+◌, ◌*◌, ◌≤◌, ◌<◌}
+use mathlib.Core.Bool.{Bool, true, false, cond}
 use mathlib.Core.List.{List, [], ◌∷◌, ◌++◌, map, append_assoc, append-nil}
-use mathlib.Core.Option.{Option, none, some}
-use mathlib.Core.Logic.{◌⊎◌, inl, inr, ⊎_elim}
+use mathlib.Core.Option.{some}
+use mathlib.Core.Logic.{◌⊎◌, inl, inr}
 use native.Mathlib.Omega.{arith}
 use lib.ListN.{length, length-append, length-take}
 use lib.Dec.{leb, ltb}
-use borrow.Author.Tests.{ltb-true, le-leb, lt-leb, leb-true, leb-false, ltb-false, le-ltb}
+use borrow.Author.Tests.{ltb-true, leb-true, leb-false, ltb-false, le-ltb}
 use Rattle.model.specs.Number.{any_of, first_of}
 use Rattle.model.specs.Reading.{object_bar, well_formed}
 use Rattle.model.specs.Object.{Object, split, join, bytes_of, standings, known, kind, role, Role, constraint, recorded, aggregated}
 use Rattle.model.specs.Cut.{may_have_tlvs, keep_if, cut, cut_body, cut_object, cut_data}
 use Rattle.model.proofs.ObjectLaws.{split-join, join-append}
 use Rattle.model.proofs.BoolLaws.{neither}
-use Rattle.model.specs.Run.{RplOption, option, join_options, options, options_up_to, containers, joined, objects_of, options_in, concat, joined_data, cut_run, cut_option, run_objects, read_run}
+use Rattle.model.specs.Run.{option, join_options, containers, objects_of, concat, joined_data, cut_run, cut_option, run_objects, read_run}
 use Rattle.model.specs.Pack.{pack_from, pack, container_option, packed, is_overlong, unpackable}
 use Rattle.model.proofs.RunLaws.{options_join, containers_cut, reading_options}
 use Rattle.model.proofs.CutLaws.{cut-append}

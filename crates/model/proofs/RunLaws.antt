@@ -11,14 +11,14 @@ use lib.Seq.{length-take-le, take-length, drop-length, take-append_seam, drop-ap
 use lib.Dec.{leb, ltb}
 use borrow.Author.Tests.{le-leb, leb-true, ltb-false}
 use Rattle.model.specs.Number.{first_of}
-use Rattle.model.specs.Object.{Object, split, join, standings, known, kind}
-use Rattle.model.specs.Reading.{no_place, misframed, data_objects, reading, Reading, refused, well_formed, read_as, read_objects, object_bar, is_none}
-use Rattle.model.specs.Cut.{keep_if, cut, cut_data, cut_object}
+use Rattle.model.specs.Object.{Object, split, join, standings}
+use Rattle.model.specs.Reading.{no_place, misframed, data_objects, reading, refused, well_formed, read_as, read_objects, object_bar, is_none}
+use Rattle.model.specs.Cut.{keep_if, cut, cut_data}
 use Rattle.model.specs.Runs.{OneContainer}
 use Rattle.model.proofs.ObjectLaws.{split-join, join-split, join-append, join_four}
 use Rattle.model.proofs.ReadingLaws.{framed}
 use Rattle.model.proofs.CutLaws.{object_bars_cut, cut-append}
-use Rattle.model.specs.Run.{RplOption, pad1, option, option_bytes, join_options, leading, options_up_to, options, is_container, containers, joined, objects_of, options_in, joined_objects, run_objects, option_cut, ninth_container, read_run, cut_option, cut_run, concat, joined_data}
+use Rattle.model.specs.Run.{RplOption, pad1, option, join_options, leading, options_up_to, options, is_container, containers, joined, objects_of, joined_objects, run_objects, option_cut, ninth_container, read_run, cut_option, cut_run, concat, joined_data}
 
 -- two limits that are at least the length give the same
 options_up_to_enough : (k j : ℕ) (bs : List ℕ) → length bs ≤ k → length bs ≤ j → options_up_to k bs ≡ options_up_to j bs

@@ -1,20 +1,20 @@
 -- Objects that fit one container; options that are stepped over; next-fit of what is passed on.
 use mathlib.Core.Path.{◌≡◌, refl, sym, ap, ◌∙◌}
-use Prim.Native.Nat.{ℕ, zero, suc, ◌+◌, ◌≤◌, ◌<◌}
+use Prim.Native.Nat.{ℕ, zero, suc, ◌+◌, ◌≤◌}
 use native.Mathlib.Omega.{arith}
 use mathlib.Core.Bool.{Bool, true, false, cond}
 use mathlib.Core.List.{List, [], ◌∷◌, ◌++◌, map, append_assoc, append-nil}
 use mathlib.Core.Option.{Option, none, some, none-ne-some}
-use lib.ListN.{length, drop, get_elem?, length-append}
+use lib.ListN.{length, get_elem?, length-append}
 use lib.Dec.{leb, ltb, eqb}
 use borrow.Author.Tests.{le-leb, leb-false, eqb-false, ne_eqb}
 use Rattle.model.specs.Number.{any_of, first_of}
-use Rattle.model.specs.Object.{Object, standings, split_up_to, split, join, bytes_of, container}
-use Rattle.model.specs.Reading.{misframed, data_objects, refused, no_place, is_none, Reading, well_formed, read_objects, reading}
+use Rattle.model.specs.Object.{Object, standings, split_up_to, split, join, bytes_of}
+use Rattle.model.specs.Reading.{refused, no_place, is_none, Reading, read_objects}
 use Rattle.model.specs.Cut.{keep_if}
-use Rattle.model.specs.Run.{RplOption, pad1, option, option_bytes, join_options, options_up_to, options, is_container, containers, joined, objects_of, options_in, joined_objects, run_objects, read_run}
+use Rattle.model.specs.Run.{RplOption, pad1, option, option_bytes, join_options, options_up_to, options, is_container, containers, objects_of, options_in, joined_objects, read_run}
 use Rattle.model.specs.Update.{update}
-use Rattle.model.specs.Pack.{pack_from, pack, container_option, packed}
+use Rattle.model.specs.Pack.{pack_from, pack, packed}
 use Rattle.model.specs.Runs.{OnePacked, is_container_option, NoContainer, Skips, OpensLate, NextFit}
 use Rattle.model.proofs.BoolLaws.{neither}
 use Rattle.model.proofs.ObjectLaws.{split-join, join-append}

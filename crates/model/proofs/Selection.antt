@@ -4,7 +4,7 @@ use Prim.Native.Nat.{ℕ, zero, suc, ◌+◌, ◌-◌, ◌≤◌, ◌<◌}
 use native.Mathlib.Omega.{arith}
 use mathlib.Core.Bool.{Bool, true, false, cond, not, false≢true, true≢false}
 use mathlib.Core.List.{List, [], ◌∷◌, ◌++◌, map}
-use mathlib.Core.Option.{none, some}
+use mathlib.Core.Option.{some}
 use lib.ListN.{length, get_or, get_elem?, replicate, length-map}
 use lib.Dec.{eqb}
 use borrow.Author.Tests.{eqb-true, ne_eqb, eq-eqb}
@@ -21,7 +21,7 @@ use Rattle.model.specs.Choice.{Nobody, Parent}
 use Rattle.model.specs.Reading.{no_place}
 use Rattle.model.specs.Rank.{infinite, resulting}
 use Rattle.model.specs.Verdict.{offer_of, verdict, number_of, place_of, is_unbarred}
-use Rattle.model.specs.Choice.{current_of, not_current, unbarred_bit, Outgoing, outgoing, no_parent, parent_of, rank_of, leaf_of, size_of, sixteen, answered, verdicts, choice_of, call, refusal}
+use Rattle.model.specs.Choice.{current_of, not_current, unbarred_bit, Outgoing, outgoing, no_parent, parent_of, rank_of, leaf_of, size_of, sixteen, answered, verdicts, choice_of, call}
 use Rattle.model.specs.Conditions.{barred_by_nothing}
 use Rattle.model.specs.Selection.{Level, has_parent, occurrences, PreferredParent, Selection, SelectionHolds}
 use Rattle.model.proofs.ListLaws.{at_below, at_map, map_at, get_d_at, get_d_past, any_map, any_same, length_filled}

@@ -19,7 +19,7 @@ use Rattle.model.specs.Run.{read_run, cut_run, joined_data}
 use Rattle.model.specs.Pack.{packed}
 use Rattle.model.specs.Verdict.{run_of, verdict, number_of}
 use Rattle.model.specs.Update.{update, leaf_answer}
-use Rattle.model.specs.Choice.{current_of, refusal, choose, bits_of, next_hop, outgoing, parent_of, rank_of, answered, verdicts, choice_of, sixteen, call}
+use Rattle.model.specs.Choice.{current_of, choose, bits_of, next_hop, outgoing, parent_of, rank_of, answered, verdicts, choice_of, sixteen, call}
 use Rattle.model.specs.Cut.{cut}
 use Rattle.model.specs.Untouched.{PassedOn, passed_on}
 use Rattle.model.specs.Unknown.{Each, nil, cons, CutBeside, barred_at, holds_unknown, SameAnswers, Demand3Holds}

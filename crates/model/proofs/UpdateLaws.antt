@@ -1,18 +1,17 @@
 -- The update for this hop against the cut.
 use mathlib.Core.Path.{◌≡◌, refl, ap, ◌∙◌}
-use Prim.Native.Nat.{ℕ, zero, suc, ◌*◌, ◌/◌, ◌%◌, ◌≤◌}
+use Prim.Native.Nat.{ℕ, zero, suc, ◌*◌, ◌/◌, ◌%◌}
 use mathlib.Core.Bool.{Bool, true, false, cond}
 use mathlib.Core.List.{List, [], ◌∷◌}
 use native.Mathlib.Omega.{arith}
-use lib.ListN.{length, take, length-append, length-take}
-use borrow.Author.Tests.{le-ltb}
+use lib.ListN.{take}
 use Rattle.model.specs.declared.Own.{Own}
 use Rattle.model.specs.declared.Neighbour.{Neighbour}
 use Rattle.model.specs.Number.{first_of}
-use Rattle.model.specs.Object.{Object, field_a, join, container, Kind, unknown, lql, colour, node, scalar, Node, nsa, ne, hp, Scalar, throughput, latency, etx, known, kind, Role, constraint, recorded, aggregated, role_bits, role_of, role}
+use Rattle.model.specs.Object.{Object, field_a, Kind, unknown, lql, colour, node, scalar, Node, nsa, ne, hp, Scalar, throughput, latency, etx, known, kind, Role, constraint, recorded, aggregated, role_bits, role_of, role}
 use Rattle.model.specs.Table.{row}
 use Rattle.model.specs.Update.{local_value, value_or_0, on_two, clear0, clear1, combine1, aggregated_body, constraint_body, adds_nothing, next_body, next_flags, next_mode, update_object, update, no_energy, is_beyond, object_leaf, too_long, leaf_answer}
-use Rattle.model.specs.Cut.{may_have_tlvs, cut_body, cut_object, keep_if, cut}
+use Rattle.model.specs.Cut.{cut_body, cut_object, keep_if, cut}
 use Rattle.model.proofs.NumberLaws.{first-zero}
 use Rattle.model.proofs.TypeLaws.{tlv_types}
 use Rattle.model.proofs.LeafLaws.{fits}

@@ -1,12 +1,10 @@
 -- What an unbarred verdict says, and that its number alone is 10.
-use mathlib.Core.Path.{◌≡◌, refl, sym, ap, ◌∙◌}
-use Prim.Native.Nat.{ℕ, suc, ◌+◌, ◌*◌, ◌≤◌, ◌<◌}
+use mathlib.Core.Path.{◌≡◌, refl, sym, ◌∙◌}
+use Prim.Native.Nat.{ℕ, ◌+◌, ◌*◌, ◌≤◌, ◌<◌}
 use native.Mathlib.Nat.{mul-le-mul}
 use native.Mathlib.Omega.{arith}
 use mathlib.Core.Bool.{Bool, true, false, not, ◌&&◌, false≢true, true≢false}
 use mathlib.Core.List.{List, [], ◌∷◌}
-use lib.ListN.{length, get_or, drop, length-take}
-use lib.Seq.{get_or-take, get_or-drop}
 use lib.Dec.{leb, ltb, eqb}
 use borrow.Author.Tests.{ltb-false, leb-false, eq-eqb, ne_eqb}
 use Rattle.model.specs.declared.Offer.{Offer}
@@ -15,7 +13,7 @@ use Rattle.model.specs.declared.Neighbour.{Neighbour}
 use Rattle.model.specs.declared.Candidate.{Candidate}
 use Rattle.model.specs.Verdict.{Verdict}
 use Rattle.model.specs.Verdict.{Unbarred, Barred}
-use Rattle.model.specs.Object.{Object, join}
+use Rattle.model.specs.Object.{Object}
 use Rattle.model.specs.Reading.{Reading, refused, well_formed}
 use Rattle.model.specs.Run.{read_run}
 use Rattle.model.specs.Rank.{infinite, resulting, rank_too_high, above_lowest}
@@ -25,7 +23,6 @@ use Rattle.model.specs.Conditions.{bars_to_19, bars_to_21, barred_by_nothing}
 use Rattle.model.proofs.BoolLaws.{neither}
 use Rattle.model.proofs.Bars.{verdict_exact, never_10}
 use Rattle.model.proofs.NumberLaws.{none_parts}
-use Rattle.model.proofs.ReadingLaws.{frame_short, reading_objects}
 
 -- what is known of a candidate that nothing bars
 pub record Admitted (own : Own) (lent : List ℕ) (c : Candidate) : Type 0 where

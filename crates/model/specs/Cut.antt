@@ -1,7 +1,7 @@
 -- Document 01's cut: the objects of a container without those of unknown type, and without TLVs.
-use Rattle.std.specs.Prelude.{ℕ, Bool, true, false, cond, ◌&&◌, List, [], ◌∷◌, length, take, leb}
+use Rattle.std.specs.Prelude.{ℕ, Bool, true, false, cond, ◌&&◌, List, [], ◌∷◌, take, leb}
 use Rattle.std.proofs.Math.Option.{Option, none, some}
-use Rattle.model.specs.Object.{Object, object, split, join, known, kind, Role, constraint, recorded, aggregated, role}
+use Rattle.model.specs.Object.{Object, object, join, known, kind, Role, constraint, recorded, aggregated, role}
 
 -- the types that can have TLVs: 1 (NSA), 2 (NE) and 3 (HP), by number and not by the table
 abbrev pub may_have_tlvs : (type : ℕ) → Bool

@@ -1,5 +1,5 @@
 -- Objects by containers: a new one is opened only when the next object would pass 255 bytes.
-use Rattle.std.specs.Prelude.{ℕ, zero, suc, ◌+◌, ◌*◌, Bool, true, false, cond, ◌||◌, List, [], ◌∷◌, ◌++◌, map, length, leb, ltb}
+use Rattle.std.specs.Prelude.{ℕ, ◌+◌, Bool, cond, ◌||◌, List, [], ◌∷◌, ◌++◌, map, length, leb, ltb}
 use Rattle.model.specs.Number.{any_of}
 use Rattle.model.specs.Object.{Object, join, bytes_of}
 use Rattle.model.specs.Run.{RplOption, option, join_options}

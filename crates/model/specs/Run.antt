@@ -1,8 +1,8 @@
 -- A run of RPL options (RFC 6550, section 6.7), and the containers in it.
-use Rattle.std.specs.Prelude.{ℕ, zero, suc, Bool, true, false, cond, List, [], ◌∷◌, ◌++◌, map, length, take, drop, leb, ltb, eqb}
+use Rattle.std.specs.Prelude.{ℕ, zero, suc, Bool, cond, List, [], ◌∷◌, ◌++◌, map, length, take, drop, leb, ltb, eqb}
 use Rattle.std.proofs.Math.Option.{Option, none, some}
-use Rattle.model.specs.Object.{Object, split, join}
-use Rattle.model.specs.Reading.{no_place, Reading, refused, well_formed, read_objects, is_none}
+use Rattle.model.specs.Object.{Object, split}
+use Rattle.model.specs.Reading.{no_place, Reading, refused, read_objects, is_none}
 use Rattle.model.specs.Cut.{keep_if, cut_data}
 
 -- an option: Pad1, a single byte 0; or one of type t + 1 with its data, whose length is a byte before them

@@ -8,7 +8,7 @@ use Rattle.model.specs.declared.Offer.{Offer}
 use Rattle.model.specs.Verdict.{Unbarred}
 use Rattle.model.specs.declared.Answer.{Answer}
 use Rattle.model.specs.Number.{any_of}
-use Rattle.model.specs.Object.{Object, bit_c, bit_o, split, known, kind, recorded, role, is_recorded}
+use Rattle.model.specs.Object.{Object, bit_c, bit_o, known, kind, recorded, role, is_recorded}
 use Rattle.model.specs.Reading.{well_formed}
 use Rattle.model.specs.Run.{run_objects, read_run, cut_run, joined_data}
 use Rattle.model.specs.Rank.{resulting}

@@ -5,7 +5,7 @@ use Rattle.std.specs.Prelude.{Some, None}
 use Rattle.model.specs.declared.Own.{Own}
 use Rattle.model.specs.declared.Neighbour.{Neighbour}
 use Rattle.model.specs.Number.{is_set, satisfies, is_unknown, number, big_endian, Case, ◌when◌, first_case, first, first_of}
-use Rattle.model.specs.Object.{Object, object, field_a, join, Kind, unknown, lql, colour, node, scalar, Node, nsa, ne, hp, Scalar, throughput, latency, etx, known, kind, Role, constraint, recorded, aggregated, role, is_aggregated, is_constraint, is_hp}
+use Rattle.model.specs.Object.{Object, object, field_a, Kind, unknown, lql, colour, node, scalar, Node, nsa, ne, hp, Scalar, throughput, latency, etx, known, kind, Role, constraint, recorded, aggregated, role, is_aggregated, is_constraint, is_hp}
 use Rattle.model.specs.Table.{row, allowed}
 use Rattle.model.specs.Pack.{unpackable}
 use Rattle.model.specs.Constraint.{energy_in, link_value, colour_in}
