@@ -5,7 +5,6 @@ pub mod StepLaws
 pub mod FrontLaws
 pub mod WalkLaws
 pub mod EntryLaws
-pub mod StartLaws
 pub mod RunWalkLaws
 pub mod OptionLaws
 pub mod PassLaws

@@ -1,16 +1,16 @@
--- The walk over a run's objects, as every pass takes it: the objects before a cursor, and what the step there, or the entry behind its container, says of them.
+-- The walk over a run's objects by steps and entries, and what each says of the objects from there on.
 use mathlib.Core.Path.{◌≡◌, refl, sym, ap, ◌∙◌}
 use Prim.Native.Nat.{ℕ, zero, suc, ◌+◌, ◌-◌, ◌≤◌, ◌<◌}
 use native.Mathlib.Nat.{zero-add, add-zero, suc-add, not-suc-le-zero}
 use native.Mathlib.Omega.{arith}
 use mathlib.Core.Bool.{Bool, true, false, cond, ◌&&◌}
-use mathlib.Core.List.{List, [], ◌∷◌, ◌++◌, append_assoc, append-nil}
-use mathlib.Core.Option.{Option, none, some, none-ne-some}
-use lib.ListN.{length, take, drop, get_or, length-append, length-take, length-drop, drop_of_length-le}
+use mathlib.Core.List.{List, [], ◌∷◌}
+use mathlib.Core.Option.{Option, none, some}
+use lib.ListN.{length, take, drop, get_or, length-take, length-drop, drop_of_length-le}
 use lib.Seq.{take-nil, drop-nil, get_or-drop, drop-drop, take-length, drop-length, length-take-le, slice}
 use lib.Dec.{leb, ltb, eqb}
 use borrow.Author.Tests.{ne_eqb, leb-true, leb-false, ltb-true, ltb-false}
-use Rattle.model.specs.Object.{Object, before, split_up_to, split, behind}
+use Rattle.model.specs.Object.{Object, before, split_up_to, split}
 use Rattle.model.specs.Reading.{misframed, data_objects}
 use Rattle.model.specs.Cut.{keep_if}
 use Rattle.model.specs.Run.{RplOption, pad1, option, leading, options_up_to, options, is_container, containers, joined, objects_of, joined_objects, run_objects}
@@ -27,7 +27,7 @@ use Rattle.wire.specs.Start.{Start}
 use Rattle.wire.specs.Step.{first_cursor, step_at, object_in}
 use Rattle.wire.specs.Entry.{option_size, entry_by, entry_at}
 use Rattle.wire.specs.Start.{start_of}
-use Rattle.wire.specs.Walk.{Inside, objects_from, entered, within, run_walk_up_to, run_walk, RunWalks, RunWalked}
+use Rattle.wire.specs.Walk.{Inside, objects_from, entered, within, run_walk_up_to, run_walk, RunWalks}
 use Rattle.wire.proofs.StepLaws.{found, left, split_found, split_short, split_end}
 use Rattle.wire.proofs.EntryLaws.{size_inside, entry_end, entry_at_lem}
 
@@ -164,10 +164,6 @@ enters (suc k) run at h = go (leb (length run) at) refl (λ to l. enters k run t
 enters_at : (run : List ℕ) (at : ℕ) → Enters run at (entry_at run at)
 enters_at run at = enters (suc (length run - at)) run at (omega arith)
 
--- an entry's container ends further on
-pub enter_further : (run : List ℕ) (end : ℕ) {c : Cursor} {e : ℕ} → entry_at run end ≡ Into c e → length run - e < length run - end
-enter_further run end q = let (a, b, d, f) = rw q at (enters_at run end) in omega arith
-
 -- ---- the objects from a cursor on
 
 before-joined : (o : Object) (r s : Option (List Object)) → joined (before o r) s ≡ before o (joined r s)
@@ -229,60 +225,6 @@ from_start run s e = rw e (go (misframed run) refl)
         → let t = cond {A = Start} b (record { cursor = record { at = 0 }; end = 0 }) (record { cursor = first_cursor; end = length run }) in objects_from run t.end t.cursor ≡ run_objects run
     go true q = joined_first (run_objects run)
     go false q = rw (take-length run, drop-length run) (joined_nil (data_objects run) ∙ sym (framed_run run q))
-
--- ---- the objects before a cursor
-
-behind_nil : (r : Option (List Object)) → r ≡ behind [] r
-behind_nil none = refl
-behind_nil (some os) = refl
-
-behind-before : (es : List Object) (o : Object) (r : Option (List Object)) → behind es (before o r) ≡ behind (es ++ (o ∷ [])) r
-behind-before es o none = refl
-behind-before es o (some os) = ap some (sym (append_assoc es (o ∷ []) os))
-
-pub run_first : (run : List ℕ) (s : Start) → s ≡ start_of run → RunWalked run s.end s.cursor []
-run_first run s e = record { inside = start_on run s e; so_far = sym (from_start run s e) ∙ behind_nil (objects_from run s.end s.cursor); few = omega arith }
-
-module _ (run : List ℕ) (end : ℕ) (p : Cursor) (es : List Object) (w : RunWalked run end p es) where
-  module _ {h : Header} {start stop : ℕ} {n : Cursor} (e : step_at (take end run) p ≡ Found h start stop n) where
-    pub run_found : RunWalked run end n (es ++ (object_in (take end run) h start stop ∷ []))
-    run_found =
-        let o = object_in (take end run) h start stop in
-        let f = found (take end run) p e in
-        let (a, b, l, i) = step_on run end p e w.inside in
-        record {
-          inside = i;
-          so_far = w.so_far ∙ ap (behind es) (from_found run end p e) ∙ behind-before es o (objects_from run end n);
-          few = rw (length-append es (o ∷ [])) (omega (arith, w.few, f.start_at, f.end_at, f.next_at));
-        }
-
-    -- where the objects are whole, those before a cursor, the one there and others behind it are all of them
-    pub run_rest : (os : List Object) → run_objects run ≡ some os → (rest : List Object) × (os ≡ es ++ (object_in (take end run) h start stop ∷ rest))
-    run_rest os q = go (objects_from run end n) (sym q ∙ w.so_far ∙ ap (behind es) (from_found run end p e))
-      where
-        go : (r : Option (List Object)) → some os ≡ behind es (before (object_in (take end run) h start stop) r)
-            → (rest : List Object) × (os ≡ es ++ (object_in (take end run) h start stop ∷ rest))
-        go none x = absurd (none-ne-some os (sym x))
-        go (some rest) x = (rest, cc)
-
-  pub run_short : step_at (take end run) p ≡ CutShort → run_objects run ≡ none
-  run_short e = w.so_far ∙ rw (from_short run end p e)
-
-  pub run_enter : {c : Cursor} {e : ℕ} → step_at (take end run) p ≡ End → entry_at run end ≡ Into c e → RunWalked run e c es
-  run_enter d q =
-      let i = enter_on run end p q w.inside in
-      record { inside = i.1; so_far = w.so_far ∙ ap (behind es) (from_enter run end p q d); few = omega (arith, w.few) }
-
-  pub run_cut : step_at (take end run) p ≡ End → entry_at run end ≡ Short → run_objects run ≡ none
-  run_cut d q = w.so_far ∙ rw (from_cut run end p d q)
-
-  pub run_end : step_at (take end run) p ≡ End → entry_at run end ≡ Nothing → run_objects run ≡ some es
-  run_end d q = w.so_far ∙ rw (from_nothing run end p d q) (ap some (append-nil es))
-
--- a cursor that a walk has come to, whatever the objects before it
-pub record Reached (run : List ℕ) (end : ℕ) (p : Cursor) : Type 0 where
-  pub earlier : List Object
-  pub walked : RunWalked run end p earlier
 
 -- ---- the walk, and the model's objects
 

@@ -1,12 +1,11 @@
 -- The bits of the uses seen, and the objects that they stand for.
 use mathlib.Core.Path.{◌≡◌, refl, sym, ◌∙◌}
-use Prim.Native.Nat.{ℕ, ◌*◌, ◌/◌, ◌%◌, ◌^◌, ◌≤◌, ◌<◌}
+use Prim.Native.Nat.{ℕ, ◌/◌, ◌%◌, ◌^◌, ◌≤◌}
 use native.Mathlib.Nat.{zero-div}
 use native.Mathlib.Omega.{arith}
 use mathlib.Core.Bool.{Bool, true, false, ◌&&◌, ◌||◌, or-false, or_assoc, true≢false}
 use mathlib.Core.List.{List, [], ◌∷◌, ◌++◌}
 use lib.Dec.{eqb}
-use lib.Bits.{bit_or}
 use borrow.Author.Tests.{eq-eqb, ne_eqb, eqb-true, eqb-false}
 use Rattle.model.specs.Number.{any_of}
 use Rattle.model.specs.Object.{Object, bit_c, kind, kind_of, known}
@@ -15,7 +14,7 @@ use Rattle.model.proofs.ListLaws.{any_same}
 use Rattle.wire.specs.Row.{has_bit}
 use Rattle.wire.specs.Seen.{use_index, has_use, with_use, seen_from, seen_after, bar_by, sets_bit, BitsExact, SeenExact, BitsApart}
 use Rattle.wire.specs.SeenRows.{SeenRows}
-use Rattle.wire.proofs.BitLaws.{shift_one, bit_with}
+use Rattle.wire.proofs.BitLaws.{bit_with}
 use Rattle.wire.proofs.RowLaws.{within, known_within}
 
 -- ---- the bits of two uses
@@ -86,21 +85,10 @@ seen_exact es o = record { exact = exact; repeat = repeat (known (kind o)) refl;
 
 -- ---- as code has it
 
--- an unknown type has no bit, and sets none
-pub no_use : (n : ℕ) (o : Object) → known (kind o) ≡ false → false ≡ has_use n o
-no_use n o u = rw u
-
-pub keeps_uses : (n : ℕ) (o : Object) → known (kind o) ≡ false → n ≡ with_use n o
-keeps_uses n o u = rw u
-
 -- a bit that is read
 pub reads_use : (n k : ℕ) (o : Object) → known (kind o) ≡ true → k ≡ use_index o → eqb (n / 2 ^ k % 2) 1 ≡ has_use n o
 unfolding has_bit
 reads_use n k o h e = rw (h, e)
-
--- a bit that is set
-pub sets_use : (n k : ℕ) (o : Object) → known (kind o) ≡ true → k < 16 → k ≡ use_index o → bit_or n ((1 * 2 ^ k) % 4294967296) ≡ with_use n o
-sets_use n k o h l e = rw (h, ← e, shift_one 32 k (omega arith))
 
 -- ---- computed
 

@@ -1,8 +1,8 @@
 -- The walk over objects: step after step from the cursor before a container's first object; in a run, from container to container.
-use Rattle.std.specs.Prelude.{◌≡◌, ℕ, zero, suc, ◌*◌, ◌≤◌, List, [], length, take, drop}
+use Rattle.std.specs.Prelude.{◌≡◌, ℕ, zero, suc, ◌≤◌, List, [], length, take, drop}
 use Rattle.std.proofs.Math.Option.{Option, none, some}
 use Rattle.std.proofs.Math.Seq.{slice}
-use Rattle.model.specs.Object.{Object, before, split, behind}
+use Rattle.model.specs.Object.{Object, before, split}
 use Rattle.model.specs.Reading.{data_objects}
 use Rattle.model.specs.Run.{joined, run_objects}
 use Rattle.wire.specs.Step.{Cursor}
@@ -67,9 +67,3 @@ run_walk run = run_walk_up_to (suc (length run)) run (start_of run).end (start_o
 -- the walk finds the run's joined objects
 abbrev pub RunWalks : Type 0
 RunWalks = (run : List ℕ) → run_walk run ≡ run_objects run
-
--- inside the crates: the objects before a cursor of a run that a walk has come to, in a container that ends at an index
-pub record RunWalked (run : List ℕ) (end : ℕ) (p : Cursor) (earlier : List Object) : Type 0 where
-  pub inside : Inside run end p
-  pub so_far : run_objects run ≡ behind earlier (objects_from run end p)
-  pub few : 4 * length earlier ≤ p.at
