@@ -14,10 +14,12 @@ use Rattle.model.specs.declared.Offer.{Offer}
 use Rattle.model.specs.declared.Verdict.{Verdict}
 use Rattle.model.specs.declared.Verdict.TheVariants.{Unbarred, Barred}
 use Rattle.model.specs.declared.Choice.{Choice}
+use Rattle.model.specs.declared.Answer.{Answer}
 use Rattle.model.specs.declared.Choice.TheVariants.{Nobody}
 use Rattle.model.specs.Reading.{no_place}
 use Rattle.model.specs.Verdict.{verdict, number_of, place_of}
 use Rattle.model.specs.Choice.{current_of, after_verdict, choose_from, unbarred_bit, bits_of, sixteen, verdicts, choice_of}
+use Rattle.choice.specs.Answered.{judged_answer}
 use Rattle.model.proofs.ChoiceLaws.{bits_below}
 use Rattle.model.proofs.ChoosingLaws.{choose_snoc, bits_snoc, sixteen_snoc, sixteen_same}
 
@@ -84,37 +86,37 @@ gathered_place {own} {lent} {judged} g h =
     let l : length ns ≡ length judged = length-map (verdicts own judged lent) place_of ∙ length-map judged (verdict own lent) in
     rw (g.placed, ← l) (sixteen_same no_place ns (omega arith))
 
--- the pass before a position: the positions stand in the array, and those before it are gathered
-pub record Pass (own : Own) (lent : List ℕ) (cs : List Candidate) (count i : ℕ) (numbers places : List ℕ) (bits : ℕ) (best : Choice) : Type 0 where
+-- the pass before a position: the positions stand in the array, those before it are gathered, and nothing else is answered yet
+pub record Pass (own : Own) (lent : List ℕ) (cs : List Candidate) (count i : ℕ) (answer : Answer) (best : Choice) : Type 0 where
   pub array : length cs ≡ 16
   pub few : count ≤ 16
-  pub reached : i ≤ count
-  pub gathered : Gathered own lent (take i cs) numbers places bits best
+  pub fresh : answer ≡ judged_answer answer.verdicts answer.places answer.bits
+  pub gathered : Gathered own lent (take i cs) answer.verdicts answer.places answer.bits best
 
-module _ {own : Own} {lent : List ℕ} {cs : List Candidate} {count i : ℕ} (d : Candidate) {numbers places : List ℕ} {bits : ℕ} {best : Choice} {v : Verdict}
-    (pass : Pass own lent cs count i numbers places bits best) (h : i < count) (judged : v ≡ verdict own lent (get_or cs i d)) where
-  pass_more : Pass own lent cs count (i + 1) (set numbers i (number_of v)) (set places i (place_of v)) (bits + unbarred_bit v * 2 ^ i) (after_verdict (current_of own) best i v)
-  pass_more = record {
-    array = pass.array;
-    few = pass.few;
-    reached = omega arith;
-    gathered = gathered_more own lent cs i d pass.array (omega arith) pass.gathered judged refl refl refl refl;
-  }
+module _ {own : Own} {lent : List ℕ} {cs : List Candidate} {count i : ℕ} (d : Candidate) {answer : Answer} {best : Choice} {v : Verdict}
+    (pass : Pass own lent cs count i answer best) (h : i < count) (judged : v ≡ verdict own lent (get_or cs i d)) where
+  more : Gathered own lent (take (i + 1) cs) (set answer.verdicts i (number_of v)) (set answer.places i (place_of v)) (answer.bits + unbarred_bit v * 2 ^ i) (after_verdict (current_of own) best i v)
+  more = gathered_more own lent cs i d pass.array (omega (arith, pass.few)) pass.gathered judged refl refl refl refl
 
   -- a candidate that is barred
-  pub pass_barred : {n p : ℕ} → v ≡ Barred n p → Pass own lent cs count (i + 1) (set numbers i n) (set places i p) bits best
-  pass_barred e = rw (e, zero-mul (2 ^ i), add-zero bits) at pass_more
+  pub pass_barred : {n p : ℕ} → v ≡ Barred n p → Pass own lent cs count (i + 1) (record answer { verdicts = set answer.verdicts i n; places = set answer.places i p }) best
+  pass_barred {n} {p} e = record {
+    array = pass.array;
+    few = pass.few;
+    fresh = ap (λ a. record a { verdicts = set answer.verdicts i n; places = set answer.places i p }) pass.fresh;
+    gathered = rw (e, zero-mul (2 ^ i), add-zero answer.bits) at more;
+  }
 
   -- one that is not: its place is none already
-  pub pass_unbarred : {r : Offer} {w : ℕ} {b : Choice} → v ≡ Unbarred r → w ≡ 2 ^ i → b ≡ after_verdict (current_of own) best i (Unbarred r)
-      → Pass own lent cs count (i + 1) (set numbers i 10) places (bit_or bits w) b
-  pass_unbarred e ew eb =
+  pub pass_unbarred : {r : Offer} {b : Choice} → v ≡ Unbarred r → b ≡ after_verdict (current_of own) best i (Unbarred r)
+      → Pass own lent cs count (i + 1) (record answer { verdicts = set answer.verdicts i 10; bits = bit_or answer.bits (2 ^ i) }) b
+  pass_unbarred e eb =
       let l : length (take i cs) ≡ i = length-take-le i cs (omega (arith, pass.array, pass.few)) in
-      let o : bit_or bits (2 ^ i) ≡ bits + 2 ^ i = rw l at (gathered_or pass.gathered) in
-      let s : set places i no_place ≡ places = rw l at (gathered_place pass.gathered (omega (arith, l, pass.few))) in
-      rw (ew, eb, o) (rw (e, one-mul (2 ^ i), s) at pass_more)
-
--- the pass is over
-pub pass_end : {own : Own} {lent : List ℕ} {cs : List Candidate} {count i : ℕ} {numbers places : List ℕ} {bits : ℕ} {best : Choice} → Pass own lent cs count i numbers places bits best
-    → count ≤ i → Gathered own lent (take count cs) numbers places bits best
-pass_end {count = count} {i = i} pass h = let e : i ≡ count = omega (arith, pass.reached) in rw e at pass.gathered
+      let o : bit_or answer.bits (2 ^ i) ≡ answer.bits + 2 ^ i = rw l at (gathered_or pass.gathered) in
+      let s : set answer.places i no_place ≡ answer.places = rw l at (gathered_place pass.gathered (omega (arith, l, pass.few))) in
+      record {
+        array = pass.array;
+        few = pass.few;
+        fresh = ap (λ a. record a { verdicts = set answer.verdicts i 10; bits = bit_or answer.bits (2 ^ i) }) pass.fresh;
+        gathered = rw (eb, o) (rw (e, one-mul (2 ^ i), s) at more);
+      }

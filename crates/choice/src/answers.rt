@@ -1,25 +1,17 @@
 // The answer of a call.
-ghost use Rattle.std.specs.Prelude.{◌≡◌, ◌^◌, ◌<◌};
-ghost use Rattle.model.specs.Choice.{no_parent};
-ghost use Rattle.choice.specs.Answered.{refused_answer, no_rank, nothing, answer_with};
+ghost use Rattle.std.specs.Prelude.{◌≡◌};
+ghost use Rattle.choice.specs.Answered.{refused_answer};
+ghost use Rattle.choice.specs.Refusal.{number_of};
 
-use hop::Sent;
+use crate::refusals::Refusal;
 use model::{Answer, Rank};
 
-// The bit of the candidate at a position, in its place.
-pub(crate) fn bit_at(position: usize) -> u16
-    requires { position < 16 }
-    ensures { result ≡ 2 ^ position }
-{
-    1 << position
-}
-
-// The answer of a refused call.
-pub(crate) fn refused(number: u8) -> Answer
-    ensures { result ≡ refused_answer number }
+// An answer that names no parent, before any candidate is judged.
+pub(crate) fn blank() -> Answer
+    ensures { result ≡ refused_answer 0 }
 {
     Answer {
-        refusal: number,
+        refusal: 0,
         parent: 255,
         rank: Rank(65535),
         verdicts: [0; 16],
@@ -31,40 +23,12 @@ pub(crate) fn refused(number: u8) -> Answer
     }
 }
 
-// The answer of a call that is not refused.
-pub(crate) fn answered(
-    parent: u8,
-    rank: Rank,
-    verdicts: [u8; 16],
-    places: [u16; 16],
-    bits: u16,
-    sent: Sent,
-) -> Answer
-    ensures { result ≡ answer_with parent rank verdicts places bits sent }
+// The answer of a refused call.
+pub(crate) fn refused(refusal: Refusal) -> Answer
+    ensures { result ≡ refused_answer (number_of refusal) }
 {
     Answer {
-        refusal: 0,
-        parent,
-        rank,
-        verdicts,
-        places,
-        bits,
-        count: u16::count_ones(bits) as u8,
-        leaf: sent.leaf,
-        size: sent.size,
+        refusal: refusal.number(),
+        ..blank()
     }
-}
-
-// The answer of a call that finds no parent.
-pub(crate) fn without_parent(verdicts: [u8; 16], places: [u16; 16], bits: u16) -> Answer
-    ensures { result ≡ answer_with no_parent no_rank verdicts places bits nothing }
-{
-    answered(
-        255,
-        Rank(65535),
-        verdicts,
-        places,
-        bits,
-        Sent { leaf: 0, size: 0 },
-    )
 }

@@ -13,57 +13,49 @@ mod differences;
 mod preference;
 mod refusals;
 
-pub use differences::{
-    CURRENT, Difference, GROUNDED, ORDER, POSITION, PREFERENCE, RANK, first_difference,
-};
+pub use differences::{Criterion, Difference, first_difference};
 pub use preference::better;
-pub use refusals::refusal_of;
+pub use refusals::{Refusal, check_call};
 
 // The whole call: refusals, a verdict on each candidate, the preferred parent, and the containers for the next hop in the output.
 pub fn call(
     own: Own,
-    candidates: [Candidate; 16],
+    candidates: &[Candidate; 16],
     count: usize,
     lent: &[u8],
     out: &mut [u8],
 ) -> Answer
-    ensures value { result ≡ (call own (given candidates count) lent.now out.old).answer }
-    ensures written { out.new ≡ (call own (given candidates count) lent.now out.old).output }
-    ensures returned { Returned own candidates count lent.now out.old (record { answer = result; output = out.new }) }
+    ensures value { result ≡ (call own (given candidates.now count) lent.now out.old).answer }
+    ensures written { out.new ≡ (call own (given candidates.now count) lent.now out.old).output }
+    ensures returned { Returned own candidates.now count lent.now out.old (record { answer = result; output = out.new }) }
 {
-    let refusal = refusals::refusal_of(own, count, out.len());
-    if refusal != 0 {
+    if let Err(refusal) = refusals::check_call(own, count, out.len()) {
         return answers::refused(refusal);
     }
-    let mut numbers = [0u8; 16];
-    let mut places = [65535u16; 16];
-    let mut bits: u16 = 0;
+    let mut answer = answers::blank();
     let mut best = Choice::Nobody;
-    let mut i: usize = 0;
-    while i < count {
-        match verdict::judge(own, candidates[i], lent) {
+    for (i, candidate) in candidates[..count].iter().enumerate() {
+        match verdict::judge(own, *candidate, lent) {
             Verdict::Barred { number, place } => {
-                numbers[i] = number;
-                places[i] = place;
-                i += 1;
+                answer.verdicts[i] = number;
+                answer.places[i] = place;
             }
             Verdict::Unbarred(offer) => {
-                numbers[i] = 10;
-                bits = bits | answers::bit_at(i);
+                answer.verdicts[i] = 10;
+                answer.bits |= 1 << i;
                 best = preference::better(own, best, i as u8, offer);
-                i += 1;
             }
         }
     }
-    match best {
-        Choice::Nobody => answers::without_parent(numbers, places, bits),
-        Choice::Parent { position, offer } => {
-            let at = position as usize;
-            let c = candidates[at];
-            let start = c.start;
-            let end = start + c.size;
-            let sent = hop::send(own, c.neighbour, &lent[start..end], out);
-            answers::answered(position, offer.rank, numbers, places, bits, sent)
-        }
+    answer.count = answer.bits.count_ones() as u8;
+    if let Choice::Parent { position, offer } = best {
+        let parent = candidates[position as usize];
+        let end = parent.start + parent.size;
+        let sent = hop::send(own, parent.neighbour, &lent[parent.start..end], out);
+        answer.parent = position;
+        answer.rank = offer.rank;
+        answer.leaf = sent.leaf;
+        answer.size = sent.size;
     }
+    answer
 }

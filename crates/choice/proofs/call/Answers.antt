@@ -1,65 +1,69 @@
-use mathlib.Core.Path.{◌≡◌, sym, ◌∙◌}
-use Prim.Native.Nat.{◌+◌, ◌-◌, ◌≤◌, ◌<◌}
-use native.Mathlib.Omega.{arith}
-use borrow.Author.Rules.{rules}
-use lib.ListN.{length, get_or, take}
-use Rattle.model.specs.declared.Choice.TheVariants.{Parent}
-use Rattle.model.specs.Choice.{choice_of}
-use Rattle.choice.specs.Given.{blank}
-use Rattle.choice.proofs.PassLaws.{Pass, gathered_none, pass_barred, pass_unbarred, pass_end}
-use Rattle.choice.proofs.ParentLaws.{parent_at, parent_inside}
-use Rattle.choice.proofs.ReturnLaws.{runs, refused_returns, nobody_returns, parent_returns, as_returned}
+use Rattle.std.proofs.Common.{rules, ◌≡◌, ℕ, ◌+◌, ◌-◌, ◌*◌, ◌<◌, ◌≤◌, length, ◌/◌, ◌%◌, Bool, true, false, nat_eq, nat_lt, List, [], ◌∷◌, ◌++◌, slice_index_or, slice_set, bit_and, bit_or, Fits, w8, w32, w64, Bor, MutBor}
+use Rattle.model.specs.Choice.{call}
+use Rattle.choice.specs.Given.{given}
+use Rattle.choice.specs.Demand3.{Returned}
 use Rattle.choice.proofs.call.Goals as goal
 
-pub returns-then-refusal-ne0 : goal.returns-then-refusal-ne0
-returns-then-refusal-ne0 c =
-    let all = as_returned (refused_returns c.args.own c.args.candidates c.args.count c.args.lent.now c.args.out.now c.refusal_of-refusal.ensures c.if-refusal-ne0.true c.refused.ensures) in
-    record { value = all.0; written = all.1.0; returned = all.1.1 }
+-- src/lib.rt:33:9
+pub returns-in-Err-clause-value : goal.returns-in-Err-clause-value
+returns-in-Err-clause-value c = ?
 
+-- src/lib.rt:33:9
+pub returns-in-Err-clause-written : goal.returns-in-Err-clause-written
+returns-in-Err-clause-written c = ?
+
+-- src/lib.rt:33:9
+pub returns-in-Err-clause-returned : goal.returns-in-Err-clause-returned
+returns-in-Err-clause-returned c = ?
+
+-- src/lib.rt:37:27
+pub shared_ref_as_front-candidate-items : goal.shared_ref_as_front-candidate-items
+shared_ref_as_front-candidate-items c = ?
+
+-- src/lib.rt:37:5
 pub loop-i-init : goal.loop-i-init
-loop-i-init c =
-    record { array = search rules; few = (runs c.args.own c.args.candidates c.args.count c.args.lent.now c.args.out.now c.refusal_of-refusal.ensures c.if-refusal-ne0.false).few; reached = omega arith; gathered = gathered_none _ _ c.args.candidates }
+loop-i-init c = ?
 
-pub loop-i-preserved-in-Barred : goal.loop-i-preserved-in-Barred
-loop-i-preserved-in-Barred c =
-    pass_barred _ c.loop-i.invariant c.loop-i-test.true c.judge.ensures c.in-Barred.is
-
+-- src/lib.rt:37:5
 pub loop-i-preserved : goal.loop-i-preserved
-loop-i-preserved c =
-    pass_unbarred _ c.loop-i.invariant c.loop-i-test.true c.judge.ensures c.in-Unbarred.is c.bit_at-bits.ensures c.better-best.ensures
+loop-i-preserved c = ?
 
-pub bounds-candidates-at : goal.bounds-candidates-at
-bounds-candidates-at c = ((let place : let p = get_or c.args.candidates c.in-Parent.position blank in
-    (c.in-Parent.position < 16) × (p.start + p.size ≤ length c.args.lent.now) =
-    let at = parent_at c.args.own c.args.candidates c.args.lent.now c.args.count blank _ _ ((let parent : choice_of c.args.own (take c.args.count c.args.candidates) c.args.lent.now ≡ Parent c.in-Parent.position c.in-Parent.offer = sym (pass_end c.loop-i.invariant c.loop-i-test.false).chosen ∙ c.in-Parent.is in parent)) in
-    (omega (arith, at.below), parent_inside c.args.own c.args.candidates c.args.lent.now c.args.count blank _ _ ((let parent : choice_of c.args.own (take c.args.count c.args.candidates) c.args.lent.now ≡ Parent c.in-Parent.position c.in-Parent.offer = sym (pass_end c.loop-i.invariant c.loop-i-test.false).chosen ∙ c.in-Parent.is in parent))) in place)).0
+-- src/lib.rt:50:20
+pub overflow_cast-answer-2 : goal.overflow_cast-answer-2
+overflow_cast-answer-2 c = ?
 
+-- src/lib.rt:52:22
+pub bounds-candidates-position : goal.bounds-candidates-position
+bounds-candidates-position c = ?
+
+-- src/lib.rt:53:19
 pub overflow_add-end : goal.overflow_add-end
-overflow_add-end c = omega (
-  arith,
-  (let place : let p = get_or c.args.candidates c.in-Parent.position blank in
-      (c.in-Parent.position < 16) × (p.start + p.size ≤ length c.args.lent.now) =
-      let at = parent_at c.args.own c.args.candidates c.args.lent.now c.args.count blank _ _ ((let parent : choice_of c.args.own (take c.args.count c.args.candidates) c.args.lent.now ≡ Parent c.in-Parent.position c.in-Parent.offer = sym (pass_end c.loop-i.invariant c.loop-i-test.false).chosen ∙ c.in-Parent.is in parent)) in
-      (omega (arith, at.below), parent_inside c.args.own c.args.candidates c.args.lent.now c.args.count blank _ _ ((let parent : choice_of c.args.own (take c.args.count c.args.candidates) c.args.lent.now ≡ Parent c.in-Parent.position c.in-Parent.offer = sym (pass_end c.loop-i.invariant c.loop-i-test.false).chosen ∙ c.in-Parent.is in parent))) in place),
-)
+overflow_add-end c = ?
 
+-- src/lib.rt:54:53
 pub slice_bounds-send-end : goal.slice_bounds-send-end
-slice_bounds-send-end c = omega (
-  arith,
-  (let place : let p = get_or c.args.candidates c.in-Parent.position blank in
-      (c.in-Parent.position < 16) × (p.start + p.size ≤ length c.args.lent.now) =
-      let at = parent_at c.args.own c.args.candidates c.args.lent.now c.args.count blank _ _ ((let parent : choice_of c.args.own (take c.args.count c.args.candidates) c.args.lent.now ≡ Parent c.in-Parent.position c.in-Parent.offer = sym (pass_end c.loop-i.invariant c.loop-i-test.false).chosen ∙ c.in-Parent.is in parent)) in
-      (omega (arith, at.below), parent_inside c.args.own c.args.candidates c.args.lent.now c.args.count blank _ _ ((let parent : choice_of c.args.own (take c.args.count c.args.candidates) c.args.lent.now ≡ Parent c.in-Parent.position c.in-Parent.offer = sym (pass_end c.loop-i.invariant c.loop-i-test.false).chosen ∙ c.in-Parent.is in parent))) in place),
-)
+slice_bounds-send-end c = ?
 
-pub returns-in-Nobody : goal.returns-in-Nobody
-returns-in-Nobody c =
-    let all = as_returned (nobody_returns c.args.own c.args.candidates c.args.count c.args.lent.now c.args.out.now c.refusal_of-refusal.ensures c.if-refusal-ne0.false c.loop-i.invariant.array
-    (pass_end c.loop-i.invariant c.loop-i-test.false) c.in-Nobody.is c.without_parent.ensures) in
-    record { value = all.0; written = all.1.0; returned = all.1.1 }
+-- src/lib.rt:21:1
+pub returns-in-Parent-clause-value : goal.returns-in-Parent-clause-value
+returns-in-Parent-clause-value c = ?
 
-pub returns-in-Parent : goal.returns-in-Parent
-returns-in-Parent c =
-    let all = as_returned (parent_returns c.args.own c.args.candidates c.args.count c.args.lent.now c.args.out.now c.refusal_of-refusal.ensures c.if-refusal-ne0.false c.loop-i.invariant.array
-    (pass_end c.loop-i.invariant c.loop-i-test.false) blank _ _ c.in-Parent.is (c.send-sent.ensures.value, c.send-sent.ensures.written) c.answered.ensures) in
-    record { value = all.0; written = all.1.0; returned = all.1.1 }
+-- src/lib.rt:21:1
+pub returns-in-Parent-clause-written : goal.returns-in-Parent-clause-written
+returns-in-Parent-clause-written c = ?
+
+-- src/lib.rt:21:1
+pub returns-in-Parent-clause-returned : goal.returns-in-Parent-clause-returned
+returns-in-Parent-clause-returned c = ?
+
+-- src/lib.rt:21:1
+pub returns-in_default-best-clause-value : goal.returns-in_default-best-clause-value
+returns-in_default-best-clause-value c = ?
+
+-- src/lib.rt:21:1
+pub returns-in_default-best-clause-written : goal.returns-in_default-best-clause-written
+returns-in_default-best-clause-written c = ?
+
+-- src/lib.rt:21:1
+pub returns-in_default-best-clause-returned : goal.returns-in_default-best-clause-returned
+returns-in_default-best-clause-returned c = ?
