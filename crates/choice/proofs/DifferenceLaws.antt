@@ -76,3 +76,5 @@ module _ (q : Quantity) (p : ℕ) (s : Offer) (b : ℕ) (r : Offer) where
   pub differ_nowhere : s.ahead ≡ r.ahead → s.rank.0 ≡ r.rank.0 → not_current q p ≡ not_current q b → p ≡ b → differ 0 0 0 ≡ difference_of q p s b r
   unfolding difference_of first_difference
   differ_nowhere e f g h = rw (level_rank e f, first_same _ _ _ _ g, first_same _ _ _ _ h)
+
+pub ruleset differs = (differ_ahead, differ_rank, differ_current, differ_position, differ_nowhere)

@@ -1,42 +1,59 @@
--- One unbarred candidate before another: by the first of ahead, rank, being the current parent and position that differs.
-use mathlib.Core.Path.{◌≡◌, refl, sym, ◌∙◌}
+-- One unbarred candidate before another: the derived order of offer, then being the current parent, then position, is that of the criteria.
+use mathlib.Core.Path.{◌≡◌, refl, ◌∙◌}
 use Prim.Native.Nat.{ℕ}
-use native.Mathlib.Omega.{arith}
-use mathlib.Core.Bool.{Bool, true, false, cond, not, beq}
-use borrow.Author.Rules.{rules}
-use lib.Dec.{ltb}
+use mathlib.Core.Bool.{Bool, true, false, cond, not}
+use mathlib.Core.List.{List, [], ◌∷◌}
+use lib.Dec.{ltb, eqb}
+use Rattle.std.specs.Prelude.{Option, Some, None}
+use Rattle.std.proofs.Common.{Ordering, Less, Equal, Greater}
+use Rattle.std.specs.Ordering.{is_lt, partial_ordering_then, nat_cmp, bool_cmp, is_some_and}
 use Rattle.model.specs.Number.{Quantity}
 use Rattle.model.specs.declared.Offer.{Offer}
 use Rattle.model.specs.Choice.{not_current, criteria, precedes}
-use Rattle.model.proofs.ChoosingLaws.{precedes_differ, precedes_same, precedes_last}
 use Rattle.model.proofs.OfferLaws.{by_offers}
 
-module _ (q : Quantity) (k p : ℕ) (s r : Offer) where
-  pub by_ahead : (s.ahead ≡ r.ahead → ⊥) → ltb s.ahead r.ahead ≡ precedes (criteria q k s) (criteria q p r)
-  by_ahead h = precedes_differ _ _ _ _ h ∙ by_offers q k p s r
+-- a comparison says that it is less
+abbrev pub Less_by : Option Ordering → Bool
+Less_by o = is_some_and is_lt o
 
-  pub by_rank : s.ahead ≡ r.ahead → (s.rank.0 ≡ r.rank.0 → ⊥) → ltb s.rank.0 r.rank.0 ≡ precedes (criteria q k s) (criteria q p r)
-  by_rank e h = precedes_differ _ _ _ _ h ∙ precedes_same _ _ _ _ e ∙ by_offers q k p s r
+-- a number compared first
+first : (x y : ℕ) (o : Option Ordering) (xs ys : List ℕ) → Less_by o ≡ precedes xs ys → Less_by (partial_ordering_then (Some (nat_cmp x y)) o) ≡ precedes (x ∷ xs) (y ∷ ys)
+unfolding precedes
+first x y o xs ys e = go (ltb x y) refl (eqb x y) refl
+  where
+    go : (s : Bool) → ltb x y ≡ s → (t : Bool) → eqb x y ≡ t → Less_by (partial_ordering_then (Some (nat_cmp x y)) o) ≡ precedes (x ∷ xs) (y ∷ ys)
+    go true p t q = rw p refl
+    go false p true q = rw (p, q) e
+    go false p false q = rw (p, q) refl
 
-  -- of two, the current parent comes first
-  pub by_current : (x y : Bool) → s.ahead ≡ r.ahead → s.rank.0 ≡ r.rank.0 → cond x 0 1 ≡ not_current q k → cond y 0 1 ≡ not_current q p → not (beq x y) ≡ true
-      → x ≡ precedes (criteria q k s) (criteria q p r)
-  by_current x y e f m n h =
-      let (l, d) = lower x y h in
-      l ∙ rw (m, n) (precedes_differ _ _ _ _ (rw (m, n) at d)) ∙ precedes_same _ _ _ _ f ∙ precedes_same _ _ _ _ e ∙ by_offers q k p s r
-    where
-      lower : (x y : Bool) → not (beq x y) ≡ true → (x ≡ ltb (cond x 0 1) (cond y 0 1)) × (◌≡◌ {A = ℕ} (cond x 0 1) (cond y 0 1) → ⊥)
-      lower true false h = (refl, λ e. omega arith)
-      lower false true h = (refl, λ e. omega arith)
-      lower true true h = search rules
-      lower false false h = search rules
+last : (x y : ℕ) → Less_by (Some (nat_cmp x y)) ≡ precedes (x ∷ []) (y ∷ [])
+unfolding precedes
+last x y = go (ltb x y) refl (eqb x y) refl
+  where
+    go : (s : Bool) → ltb x y ≡ s → (t : Bool) → eqb x y ≡ t → Less_by (Some (nat_cmp x y)) ≡ precedes (x ∷ []) (y ∷ [])
+    go true p t q = rw p refl
+    go false p true q = rw (p, q) refl
+    go false p false q = rw (p, q) refl
 
-  pub by_position : (x y : Bool) → s.ahead ≡ r.ahead → s.rank.0 ≡ r.rank.0 → cond x 0 1 ≡ not_current q k → cond y 0 1 ≡ not_current q p → not (beq x y) ≡ false
-      → ltb k p ≡ precedes (criteria q k s) (criteria q p r)
-  by_position x y e f m n i = precedes_last k p ∙ precedes_same _ _ _ _ (sym m ∙ level x y i ∙ n) ∙ precedes_same _ _ _ _ f ∙ precedes_same _ _ _ _ e ∙ by_offers q k p s r
-    where
-      level : (x y : Bool) → not (beq x y) ≡ false → ◌≡◌ {A = ℕ} (cond x 0 1) (cond y 0 1)
-      level true true h = refl
-      level false false h = refl
-      level true false h = search rules
-      level false true h = search rules
+-- comparisons one after another, from the left as from the right
+regroup : (a b c d : Option Ordering) → partial_ordering_then (partial_ordering_then (partial_ordering_then a b) c) d ≡ partial_ordering_then a (partial_ordering_then b (partial_ordering_then c d))
+regroup None b c d = refl
+regroup (Some Less) b c d = refl
+regroup (Some Greater) b c d = refl
+regroup (Some Equal) None c d = refl
+regroup (Some Equal) (Some Less) c d = refl
+regroup (Some Equal) (Some Greater) c d = refl
+regroup (Some Equal) (Some Equal) c d = refl
+
+current : (x y : Bool) → bool_cmp (not x) (not y) ≡ nat_cmp (cond x 0 1) (cond y 0 1)
+current true true = refl
+current true false = refl
+current false true = refl
+current false false = refl
+
+pub by_order : (q : Quantity) (k p : ℕ) (s r : Offer) (x y : Bool) → cond x 0 1 ≡ not_current q k → cond y 0 1 ≡ not_current q p
+    → Less_by (partial_ordering_then (partial_ordering_then (partial_ordering_then (Some (nat_cmp s.ahead r.ahead)) (Some (nat_cmp s.rank.0 r.rank.0))) (Some (bool_cmp (not x) (not y)))) (Some (nat_cmp k p)))
+    ≡ precedes (criteria q k s) (criteria q p r)
+by_order q k p s r x y m n =
+    rw (regroup (Some (nat_cmp s.ahead r.ahead)) (Some (nat_cmp s.rank.0 r.rank.0)) (Some (bool_cmp (not x) (not y))) (Some (nat_cmp k p)), current x y, m, n)
+    (first s.ahead r.ahead _ _ _ (first s.rank.0 r.rank.0 _ _ _ (first (not_current q k) (not_current q p) _ _ _ (last k p)))) ∙ by_offers q k p s r

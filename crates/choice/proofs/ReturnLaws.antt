@@ -1,6 +1,6 @@
 -- What a call returns and leaves in the output is what the model says.
 use mathlib.Core.Path.{◌≡◌, refl, sym, ap, ◌∙◌}
-use Prim.Native.Nat.{ℕ, ◌+◌, ◌-◌, ◌≤◌}
+use Prim.Native.Nat.{ℕ, ◌+◌, ◌-◌, ◌≤◌, ◌<◌}
 use native.Mathlib.Nat.{add-sub_cancel_left}
 use native.Mathlib.Omega.{arith}
 use mathlib.Core.List.{List}
@@ -25,8 +25,8 @@ use Rattle.choice.specs.declared.refusals.Refusal.TheVariants.{Own, Count, Curre
 use Rattle.choice.specs.Refusal.{number_of}
 use Rattle.choice.specs.Answered.{refused_answer, no_rank, nothing, answer_with}
 use Rattle.choice.proofs.GivenLaws.{given-length, given_within}
-use Rattle.choice.proofs.PassLaws.{Pass}
-use Rattle.choice.proofs.ParentLaws.{parent_sends}
+use Rattle.choice.proofs.PassLaws.{Gathered, Pass, pass_end}
+use Rattle.choice.proofs.ParentLaws.{parent_at, parent_inside, parent_sends}
 
 module _ (own : OwnType.Own) (cs : List Candidate) (n : ℕ) (lent out : List ℕ) where
   -- the contract of `call`: an answer, and the output as it is left
@@ -60,36 +60,44 @@ module _ (own : OwnType.Own) (cs : List Candidate) (n : ℕ) (lent out : List �
       let l = given-length cs n in
       record { few = omega (arith, u.few); known_type = u.known_type; room = u.room }
 
-  module _ (z : refusal own n (length out) ≡ 0) (answer : Answer) {best : Choice} (pass : Pass own lent cs n n answer best) where
+  module _ (z : refusal own n (length out) ≡ 0) (answer : Answer) {best : Choice} {i : ℕ} (pass : Pass own lent (take n cs) i answer best) (over : length (take n cs) ≤ i) (array : length cs ≡ 16) where
+    g : Gathered own lent (take n cs) answer.verdicts answer.places answer.bits best
+    g = pass_end pass over
+
     answered_returns : (ch : Choice) → best ≡ ch → (o : Outgoing) → o ≡ outgoing own (take n cs) lent ch
         → Returns (answer_with (parent_of ch) (rank_of ch) answer.verdicts answer.places answer.bits (sent_of o)) (output_of o out)
     answered_returns ch b o f =
-        let q : choice_of own (take n cs) lent ≡ ch = sym pass.gathered.chosen ∙ b in
-        let h : n ≤ length cs = omega (arith, pass.array, (runs z).few) in
-        rw (call_is own (given cs n) lent out (taken z), given_within cs n, q, ← f, pass.gathered.numbered, pass.gathered.placed, pass.gathered.marked) (refl, refl)
+        let q : choice_of own (take n cs) lent ≡ ch = sym g.chosen ∙ b in
+        let h : n ≤ length cs = omega (arith, array, (runs z).few) in
+        rw (call_is own (given cs n) lent out (taken z), given_within cs n, q, ← f, g.numbered, g.placed, g.marked) (refl, refl)
 
     -- an answer to which the rest is added
     finished : (p : ℕ) (r : Rank) (s : Sent)
         → record answer { parent = p; rank = r; count = ones answer.bits; leaf = s.leaf; size = s.size } ≡ answer_with p r answer.verdicts answer.places answer.bits s
-    finished p r s = ap (λ a. record a { parent = p; rank = r; count = ones answer.bits; leaf = s.leaf; size = s.size }) pass.fresh
+    finished p r s = ap {A = Answer} {B = Answer} (λ a. record a { parent = p; rank = r; count = ones answer.bits; leaf = s.leaf; size = s.size }) pass.fresh
 
-    pub nobody_returns : best ≡ Nobody → Returns (record answer { count = ones answer.bits }) out
+    pub nobody_returns : {k : ℕ} → best ≡ Nobody → k ≡ ones answer.bits → Returns (record answer { count = k }) out
     unfolding outgoing
-    nobody_returns b =
-        let e : record answer { count = ones answer.bits } ≡ answer_with no_parent no_rank answer.verdicts answer.places answer.bits nothing = ap (λ a. record a { count = ones answer.bits }) pass.fresh in
-        rw e (answered_returns Nobody b _ refl)
+    nobody_returns b count =
+        let e : record answer { count = ones answer.bits } ≡ answer_with no_parent no_rank answer.verdicts answer.places answer.bits nothing = ap {A = Answer} {B = Answer} (λ a. record a { count = ones answer.bits }) pass.fresh in
+        rw (count, e) (answered_returns Nobody b _ refl)
 
-    module _ (d : Candidate) (p : ℕ) (offer : Offer) where
-      pub parent_returns : {s : Sent} {left : List ℕ} → best ≡ Parent p offer
-          → (let c = get_or cs p d in let o = sends own c.neighbour (take (c.start + c.size - c.start) (drop c.start lent)) (length out) in
+    module _ (d : Candidate) (p : ℕ) (offer : Offer) (b : best ≡ Parent p offer) where
+      -- the parent is among the candidates, and its run lies in the lent bytes
+      pub parent_place : (p < 16) × ((get_or cs p d).start + (get_or cs p d).size ≤ length lent)
+      parent_place =
+          let e = sym g.chosen ∙ b in
+          (omega (arith, (parent_at own cs lent n d p offer e).below, (runs z).few), parent_inside own cs lent n d p offer e)
+
+      pub parent_returns : {k : ℕ} {s : Sent} {left : List ℕ} → k ≡ ones answer.bits → (let c = get_or cs p d in let o = sends own c.neighbour (take (c.start + c.size - c.start) (drop c.start lent)) (length out) in
           (s ≡ sent_of o) × (left ≡ output_of o out))
-          → Returns (record answer { parent = p; rank = offer.rank; count = ones answer.bits; leaf = s.leaf; size = s.size }) left
-      parent_returns {s} b (x, y) =
+          → Returns (record answer { parent = p; rank = offer.rank; count = k; leaf = s.leaf; size = s.size }) left
+      parent_returns {s = s} count (x, y) =
           let c = get_or cs p d in
           let u = runs z in
           let f : sends own c.neighbour (take (c.start + c.size - c.start) (drop c.start lent)) (length out) ≡ outgoing own (take n cs) lent (Parent p offer) =
-          rw (add-sub_cancel_left c.start c.size) (parent_sends own cs lent n d p offer (sym pass.gathered.chosen ∙ b) (length out) u.known_type u.room) in
-          rw (finished p offer.rank s, x, y) (answered_returns (Parent p offer) b _ f)
+          rw (add-sub_cancel_left c.start c.size) (parent_sends own cs lent n d p offer (sym g.chosen ∙ b) (length out) u.known_type u.room) in
+          rw (count, finished p offer.rank s, x, y) (answered_returns (Parent p offer) b _ f)
 
 -- both parts of the contract, and what demand 3 asks of them
 pub as_returned : {own : OwnType.Own} {cs : List Candidate} {n : ℕ} {lent out : List ℕ} {r : Answer} {left : List ℕ} → Returns own cs n lent out r left

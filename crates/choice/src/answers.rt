@@ -1,10 +1,26 @@
 // The answer of a call.
-ghost use Rattle.std.specs.Prelude.{◌≡◌};
+ghost use Rattle.std.specs.Prelude.{◌≡◌, ◌^◌, ◌<◌};
+ghost use Rattle.std.specs.Int.Count.{ones};
 ghost use Rattle.choice.specs.Answered.{refused_answer};
 ghost use Rattle.choice.specs.Refusal.{number_of};
 
 use crate::refusals::Refusal;
 use model::{Answer, Rank};
+
+// The bit of the candidate at a position, in its place.
+pub(crate) fn bit_at(position: usize) -> u16
+    requires { position < 16 }
+    ensures { result ≡ 2 ^ position }
+{
+    1 << position
+}
+
+// How many bits are set.
+pub(crate) fn count_of(bits: u16) -> u8
+    ensures { result ≡ ones bits }
+{
+    u16::count_ones(bits) as u8
+}
 
 // An answer that names no parent, before any candidate is judged.
 pub(crate) fn blank() -> Answer

@@ -54,18 +54,20 @@ fn ahead_difference(value: u8, against: u8) -> Difference
         return on(Criterion::Order, value / 16, against / 16);
     }
     if value / 8 % 2 != against / 8 % 2 {
-        return on(
-            Criterion::Grounded,
-            1 - value / 8 % 2,
-            1 - against / 8 % 2,
-        );
+        return on(Criterion::Grounded, 1 - value / 8 % 2, 1 - against / 8 % 2);
     }
     on(Criterion::Preference, 7 - value % 8, 7 - against % 8)
 }
 
 // The first criterion on which a candidate differs from another. It names no winner: `better` alone does.
-#[tactic(auto, using(crate::proofs::DifferenceLaws::differ_ahead, crate::proofs::DifferenceLaws::differ_rank, crate::proofs::DifferenceLaws::differ_current, crate::proofs::DifferenceLaws::differ_position, crate::proofs::DifferenceLaws::differ_nowhere))]
-pub fn first_difference(own: Own, position: u8, offer: Offer, other: u8, than: Offer) -> Option<Difference>
+#[tactic(auto, using(crate::proofs::DifferenceLaws::differs))]
+pub fn first_difference(
+    own: Own,
+    position: u8,
+    offer: Offer,
+    other: u8,
+    than: Offer,
+) -> Option<Difference>
     ensures { told_of result ≡ difference_of (current_of own) position offer other than }
 {
     if offer.ahead != than.ahead {

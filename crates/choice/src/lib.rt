@@ -42,12 +42,12 @@ pub fn call(
             }
             Verdict::Unbarred(offer) => {
                 answer.verdicts[i] = 10;
-                answer.bits |= 1 << i;
+                answer.bits |= answers::bit_at(i);
                 best = preference::better(own, best, i as u8, offer);
             }
         }
     }
-    answer.count = answer.bits.count_ones() as u8;
+    answer.count = answers::count_of(answer.bits);
     if let Choice::Parent { position, offer } = best {
         let parent = candidates[position as usize];
         let end = parent.start + parent.size;

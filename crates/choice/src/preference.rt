@@ -14,7 +14,6 @@ pub(crate) fn is_current(own: Own, position: u8) -> bool
 
 // Whether an unbarred candidate comes before another: by what comes before the rank, then by the lower rank, then as the current parent,
 // then by the lower position.
-#[tactic(auto, using(crate::proofs::PreferenceLaws::by_ahead, crate::proofs::PreferenceLaws::by_rank, crate::proofs::PreferenceLaws::by_current, crate::proofs::PreferenceLaws::by_position))]
 fn comes_before(own: Own, position: u8, offer: Offer, other: u8, than: Offer) -> bool
     ensures { result ≡ precedes (criteria (current_of own) position offer) (criteria (current_of own) other than) }
 {
@@ -26,10 +25,15 @@ pub fn better(own: Own, best: Choice, position: u8, offer: Offer) -> Choice
     ensures { result ≡ after_verdict (current_of own) best position (Unbarred offer) }
 {
     match best {
+        Choice::Nobody => Choice::Parent { position, offer },
         Choice::Parent {
             position: other,
             offer: than,
-        } if !comes_before(own, position, offer, other, than) => best,
-        _ => Choice::Parent { position, offer },
+        } => {
+            if comes_before(own, position, offer, other, than) {
+                return Choice::Parent { position, offer };
+            }
+            best
+        }
     }
 }

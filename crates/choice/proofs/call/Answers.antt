@@ -1,69 +1,49 @@
-use Rattle.std.proofs.Common.{rules, ◌≡◌, ℕ, ◌+◌, ◌-◌, ◌*◌, ◌<◌, ◌≤◌, length, ◌/◌, ◌%◌, Bool, true, false, nat_eq, nat_lt, List, [], ◌∷◌, ◌++◌, slice_index_or, slice_set, bit_and, bit_or, Fits, w8, w32, w64, Bor, MutBor}
-use Rattle.model.specs.Choice.{call}
-use Rattle.choice.specs.Given.{given}
-use Rattle.choice.specs.Demand3.{Returned}
+use mathlib.Core.Path.{◌≡◌, refl, sym, ◌∙◌}
+use Prim.Native.Nat.{◌+◌, ◌≤◌, ◌<◌}
+use native.Mathlib.Omega.{arith}
+use borrow.Author.Rules.{rules}
+use lib.ListN.{length, get_or, take}
+use Rattle.model.specs.declared.Choice.TheVariants.{Parent}
+use Rattle.choice.specs.Given.{blank}
+use Rattle.choice.proofs.PassLaws.{Pass, pass_first, pass_barred, pass_unbarred, pass_end}
+use Rattle.choice.proofs.ReturnLaws.{runs, refused_returns, nobody_returns, parent_place, parent_returns, as_returned}
 use Rattle.choice.proofs.call.Goals as goal
+use Rattle.choice.proofs.call.Goals.{in-Barred, in-Unbarred}
 
--- src/lib.rt:33:9
-pub returns-in-Err-clause-value : goal.returns-in-Err-clause-value
-returns-in-Err-clause-value c = ?
+pub returns-in-Err : goal.returns-in-Err
+returns-in-Err c =
+    let all = as_returned (refused_returns c.args.own c.args.candidates.now c.args.count c.args.lent.now c.args.out.now c.in-Err.refusal c.in-Err.ensures c.refused.ensures) in
+    record { value = all.0; written = all.1.0; returned = all.1.1 }
 
--- src/lib.rt:33:9
-pub returns-in-Err-clause-written : goal.returns-in-Err-clause-written
-returns-in-Err-clause-written c = ?
-
--- src/lib.rt:33:9
-pub returns-in-Err-clause-returned : goal.returns-in-Err-clause-returned
-returns-in-Err-clause-returned c = ?
-
--- src/lib.rt:37:27
 pub shared_ref_as_front-candidate-items : goal.shared_ref_as_front-candidate-items
-shared_ref_as_front-candidate-items c = ?
+shared_ref_as_front-candidate-items c = (runs c.args.own c.args.candidates.now c.args.count c.args.lent.now c.args.out.now (sym c.in_default.ensures)).few
 
--- src/lib.rt:37:5
 pub loop-i-init : goal.loop-i-init
-loop-i-init c = ?
+loop-i-init c =
+    let few : length (take c.args.count c.args.candidates.now) ≤ 16 = omega (arith, (runs c.args.own c.args.candidates.now c.args.count c.args.lent.now c.args.out.now (sym c.in_default.ensures)).few) in
+    pass_first c.args.own c.args.lent.now (take c.args.count c.args.candidates.now) few c.blank-answer.ensures
 
--- src/lib.rt:37:5
 pub loop-i-preserved : goal.loop-i-preserved
-loop-i-preserved c = ?
+loop-i-preserved c = elim c.match-judge.branch [
+  | in-Barred w ↦ rw (w.answer-is, w.best-is) (pass_barred blank c.loop-i.invariant c.loop-i-test.true c.judge.ensures w.in-Barred.is)
+  | in-Unbarred w ↦ rw (w.answer-is, w.best-is, w.bit_at.ensures) (pass_unbarred blank c.loop-i.invariant c.loop-i-test.true c.judge.ensures w.in-Unbarred.is w.better-best.ensures)
+]
 
--- src/lib.rt:50:20
-pub overflow_cast-answer-2 : goal.overflow_cast-answer-2
-overflow_cast-answer-2 c = ?
-
--- src/lib.rt:52:22
 pub bounds-candidates-position : goal.bounds-candidates-position
-bounds-candidates-position c = ?
+bounds-candidates-position c = (parent_place c.args.own c.args.candidates.now c.args.count c.args.lent.now c.args.out.now (sym c.in_default.ensures) _ c.loop-i.invariant c.loop-i-test.false (search rules) blank _ _ c.in-Parent.is).0
 
--- src/lib.rt:53:19
 pub overflow_add-end : goal.overflow_add-end
-overflow_add-end c = ?
+overflow_add-end c = omega (arith, (parent_place c.args.own c.args.candidates.now c.args.count c.args.lent.now c.args.out.now (sym c.in_default.ensures) _ c.loop-i.invariant c.loop-i-test.false (search rules) blank _ _ c.in-Parent.is).1)
 
--- src/lib.rt:54:53
 pub slice_bounds-send-end : goal.slice_bounds-send-end
-slice_bounds-send-end c = ?
+slice_bounds-send-end c = omega (arith, (parent_place c.args.own c.args.candidates.now c.args.count c.args.lent.now c.args.out.now (sym c.in_default.ensures) _ c.loop-i.invariant c.loop-i-test.false (search rules) blank _ _ c.in-Parent.is).1)
 
--- src/lib.rt:21:1
-pub returns-in-Parent-clause-value : goal.returns-in-Parent-clause-value
-returns-in-Parent-clause-value c = ?
+pub returns-in-Parent : goal.returns-in-Parent
+returns-in-Parent c =
+    let all = as_returned (parent_returns c.args.own c.args.candidates.now c.args.count c.args.lent.now c.args.out.now (sym c.in_default.ensures) _ c.loop-i.invariant c.loop-i-test.false (search rules) blank _ _ c.in-Parent.is c.count_of.ensures (c.send-sent.ensures.value, c.send-sent.ensures.written)) in
+    record { value = all.0; written = all.1.0; returned = all.1.1 }
 
--- src/lib.rt:21:1
-pub returns-in-Parent-clause-written : goal.returns-in-Parent-clause-written
-returns-in-Parent-clause-written c = ?
-
--- src/lib.rt:21:1
-pub returns-in-Parent-clause-returned : goal.returns-in-Parent-clause-returned
-returns-in-Parent-clause-returned c = ?
-
--- src/lib.rt:21:1
-pub returns-in_default-best-clause-value : goal.returns-in_default-best-clause-value
-returns-in_default-best-clause-value c = ?
-
--- src/lib.rt:21:1
-pub returns-in_default-best-clause-written : goal.returns-in_default-best-clause-written
-returns-in_default-best-clause-written c = ?
-
--- src/lib.rt:21:1
-pub returns-in_default-best-clause-returned : goal.returns-in_default-best-clause-returned
-returns-in_default-best-clause-returned c = ?
+pub returns-in_default-best : goal.returns-in_default-best
+returns-in_default-best c =
+    let all = as_returned (nobody_returns c.args.own c.args.candidates.now c.args.count c.args.lent.now c.args.out.now (sym c.in_default.ensures) _ c.loop-i.invariant c.loop-i-test.false (search rules) (search rules) c.count_of.ensures) in
+    record { value = all.0; written = all.1.0; returned = all.1.1 }
