@@ -7,15 +7,16 @@ ghost use Rattle.model.specs.Run.{run_objects, read_run};
 ghost use Rattle.model.specs.Constraint.{summary};
 ghost use Rattle.wire.specs.Reading.{told_of};
 ghost use Rattle.reason.specs.Finding.{object_finding, unmet_finding};
+ghost use Rattle.reason.specs.Told.{finding_in};
 
-use crate::findings::Finding;
-use crate::{asked, findings};
+use crate::asked;
+use crate::findings::Shortfall;
 use model::Neighbour;
 use wire::{Entry, Reading, Step, Told};
 
 // What it asks, and what was found, by what a run whose objects are whole tells.
-fn at_object(neighbour: Neighbour, told: Told, place: u16, run: &[u8]) -> Finding
-    ensures { (os : List Object) → run_objects run.now ≡ some os → told ≡ told_of (summary os) → result ≡ object_finding neighbour (summary os) (get_elem? os place) }
+fn at_object(neighbour: Neighbour, told: Told, place: u16, run: &[u8]) -> Option<Shortfall>
+    ensures { (os : List Object) → run_objects run.now ≡ some os → told ≡ told_of (summary os) → finding_in result ≡ object_finding neighbour (summary os) (get_elem? os place) }
 {
     let start = wire::start_of(run);
     let mut cursor = start.cursor;
@@ -37,7 +38,7 @@ fn at_object(neighbour: Neighbour, told: Told, place: u16, run: &[u8]) -> Findin
                 cursor = next;
             }
             Step::CutShort => {
-                return findings::nothing();
+                return None;
             }
             Step::End => match wire::enter(run, end) {
                 Entry::Into { first, end: behind } => {
@@ -45,10 +46,10 @@ fn at_object(neighbour: Neighbour, told: Told, place: u16, run: &[u8]) -> Findin
                     end = behind;
                 }
                 Entry::Short => {
-                    return findings::nothing();
+                    return None;
                 }
                 Entry::Nothing => {
-                    return findings::nothing();
+                    return None;
                 }
             },
         }
@@ -56,14 +57,14 @@ fn at_object(neighbour: Neighbour, told: Told, place: u16, run: &[u8]) -> Findin
 }
 
 // The same of a run that is read first.
-pub(crate) fn unmet(neighbour: Neighbour, place: u16, run: &[u8]) -> Finding
-    ensures { result ≡ unmet_finding neighbour (read_run run.now) place }
+pub(crate) fn unmet(neighbour: Neighbour, place: u16, run: &[u8]) -> Option<Shortfall>
+    ensures { finding_in result ≡ unmet_finding neighbour (read_run run.now) place }
 {
     match wire::read_run(run) {
         Reading::Refused {
             number: _,
             place: _,
-        } => findings::nothing(),
+        } => None,
         Reading::WellFormed {
             count: _,
             mandatory: _,
