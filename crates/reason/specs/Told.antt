@@ -1,5 +1,5 @@
 -- Inside the crate: what code has of a finding.
-use Rattle.std.specs.Prelude.{ℕ, ◌+◌, Bool, true, false, cond, eqb, Result, Ok, Err, Option, Some, None, ⊤}
+use Rattle.std.specs.Prelude.{ℕ, ◌+◌, cond, eqb, Result, Ok, Err, Option, Some, None, ⊤}
 use Rattle.model.specs.Number.{Quantity}
 use Rattle.reason.specs.declared.findings.Shortfall.{Shortfall}
 use Rattle.reason.specs.declared.findings.Finding.{Finding}
@@ -24,11 +24,6 @@ finding_from (Ok u) = nothing
 abbrev pub objects_in : Result ℕ Shortfall → Objects
 objects_in (Err s) = Short (by_number s)
 objects_in (Ok i) = All i
-
--- a check that something falls short
-abbrev pub unless : (short : Bool) → Shortfall → Result ⊤ Shortfall
-unless true s = Err s
-unless false s = Ok tt
 
 -- latency and ETX: the link's value, alone or with what was received of the path
 abbrev pub limit_told : (way received limit : ℕ) → Quantity → Finding

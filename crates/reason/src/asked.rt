@@ -51,10 +51,22 @@ fn of_ne(neighbour: Neighbour, flags: u8, limit: u8) -> Shortfall
         if neighbour.nodetype != nodetype {
             return Shortfall::of(Way::OtherType, 0, nodetype, neighbour.nodetype);
         }
-        return of_energy(neighbour, Way::LittleEnergy, Way::UnknownEnergy, nodetype, limit);
+        return of_energy(
+            neighbour,
+            Way::LittleEnergy,
+            Way::UnknownEnergy,
+            nodetype,
+            limit,
+        );
     }
     if flags % 2 == 1 {
-        return of_energy(neighbour, Way::BarredEnergy, Way::BarredUnknown, nodetype, limit);
+        return of_energy(
+            neighbour,
+            Way::BarredEnergy,
+            Way::BarredUnknown,
+            nodetype,
+            limit,
+        );
     }
     Shortfall::of(Way::BarredType, 0, nodetype, neighbour.nodetype)
 }
@@ -185,7 +197,12 @@ fn of_colour(neighbour: Neighbour, high: u8, low: u8) -> Shortfall
 
 // What an unmet constraint of a type asks, and what was found; nothing for an unknown type.
 #[tactic(auto, unfolding(crate::specs::Finding::asked_with))]
-pub(crate) fn of_type(neighbour: Neighbour, told: Told, mctype: u8, body: &[u8]) -> Option<Shortfall>
+pub(crate) fn of_type(
+    neighbour: Neighbour,
+    told: Told,
+    mctype: u8,
+    body: &[u8],
+) -> Option<Shortfall>
     ensures { finding_in result ≡ asked_with neighbour (hops_told told.hops (get_or body.now 1 0)) told.latency told.etx mctype body.now }
 {
     let flags = neighbour.flags;

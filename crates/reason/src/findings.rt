@@ -106,12 +106,14 @@ impl From<Option<Shortfall>> for Finding {
 
     fn from(shortfall: Option<Shortfall>) -> Finding {
         match shortfall {
-            Some(Shortfall {
-                way,
-                which,
-                asked,
-                found,
-            }) => Finding {
+            Some(
+                Shortfall {
+                    way,
+                    which,
+                    asked,
+                    found,
+                },
+            ) => Finding {
                 way: way.number(),
                 which,
                 asked,

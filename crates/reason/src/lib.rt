@@ -26,6 +26,7 @@ pub use reasons::{Kind, Reason, Refused, Standing};
 const ROOM: usize = 2056;
 
 // The refusal of a question: that of the call but for its output, then a position that is not below the count.
+#[tactic(auto, using(crate::proofs::WhyLaws::questions))]
 fn check_question(own: Own, count: usize, position: usize) -> Result<(), Refused>
     ensures { refused_as result ≡ why_refusal own count position }
 {

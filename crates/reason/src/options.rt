@@ -77,6 +77,7 @@ fn count(run: &[u8]) -> u64
 }
 
 // Bar 23: more containers than eight.
+#[tactic(auto, unfolding(crate::specs::Finding::containers_finding))]
 pub(crate) fn containers(run: &[u8]) -> Shortfall
     ensures { by_number result ≡ containers_finding run.now }
 {

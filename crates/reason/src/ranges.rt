@@ -1,14 +1,15 @@
 // Bar 11: the first number that is out of range.
-ghost use Rattle.std.specs.Prelude.{◌≡◌, cond, ◌||◌, ltb};
+ghost use Rattle.std.specs.Prelude.{◌≡◌, ◌||◌, ltb, is_err, Err, OnErr};
 ghost use Rattle.reason.specs.Finding.{range_finding};
-ghost use Rattle.reason.specs.Told.{finding_from, unless};
+ghost use Rattle.reason.specs.Told.{finding_from};
 
 use crate::findings::{Shortfall, Way};
 use model::{Neighbour, Own};
 
 // A number is in its range.
 fn within(way: Way, least: u64, most: u64, found: u64) -> Result<(), Shortfall>
-    ensures { result ≡ unless (ltb found least || ltb most found) (record { way = way; which = least; asked = most; found = found }) }
+    ensures short { is_err result ≡ (ltb found least || ltb most found) }
+    ensures told { OnErr result (result ≡ Err (record { way = way; which = least; asked = most; found = found })) }
 {
     if (found < least) | (most < found) {
         return Err(Shortfall {
@@ -22,6 +23,7 @@ fn within(way: Way, least: u64, most: u64, found: u64) -> Result<(), Shortfall>
 }
 
 // Sp, Rf, Sr, LQL, type, colour, and in edition 2 order and preference, are in range.
+#[tactic(auto, unfolding(crate::specs::Finding::range_finding, crate::specs::Finding::word_range, crate::specs::Finding::site_range))]
 pub(crate) fn check(own: Own, neighbour: Neighbour) -> Result<(), Shortfall>
     ensures { finding_from result ≡ range_finding own neighbour }
 {
