@@ -1,237 +1,159 @@
 // The sentences for bar 19: what a constraint asks, and what the neighbour, the link or the path has.
-ghost use Rattle.std.specs.Prelude.{◌<◌, ◌≤◌};
-
-use crate::say;
-use crate::say::Buffer;
+use crate::output::Output;
 use reason::Finding;
+use std::io::Write;
+use std::{fmt, io};
 
-// The types of nodes that RFC 6551 names.
-const MAINS: u64 = 0;
+// Nodes of a type, by the names of RFC 6551.
+#[derive(Clone, Copy)]
+struct Nodes(u64);
 
-const BATTERY: u64 = 1;
-
-const SCAVENGER: u64 = 2;
-
-// Puts nodes of a type.
-fn nodes(out: &mut Buffer, held: usize, nodetype: u64) -> usize
-    requires { held ≤ 65536 }
-    ensures { result ≤ 65536 }
-{
-    match nodetype {
-        MAINS => say::text(out, held, b"mains nodes (type 0)"),
-        BATTERY => say::text(out, held, b"battery nodes (type 1)"),
-        SCAVENGER => say::text(out, held, b"scavenger nodes (type 2)"),
-        _ => say::pair(out, held, b"nodes of type ", nodetype),
-    }
-}
-
-// Puts nodes of a type by their energy, with the words for how it compares, and the energy that was found, if it is known.
-fn energy(out: &mut Buffer, held: usize, f: Finding, compares: &[u8]) -> usize
-    requires { held ≤ 65536 }
-    ensures { result ≤ 65536 }
-{
-    let way = f.way;
-    let a = nodes(out, held, f.which);
-    let b = say::between(out, a, compares, f.asked, b" % energy; ");
-    match way {
-        reason::LITTLE_ENERGY | reason::BARRED_ENERGY => say::between(
-            out,
-            b,
-            b"this one has ",
-            f.found,
-            b" %",
-        ),
-        _ => say::text(out, b, b"that of this one is unknown"),
-    }
-}
-
-// Ways 17 to 19: a type, or an energy, that is asked for.
-fn wanted(out: &mut Buffer, held: usize, f: Finding) -> usize
-    requires { held ≤ 65536 }
-    ensures { result ≤ 65536 }
-{
-    if f.way != reason::OTHER_TYPE {
-        return energy(out, held, f, b" with more than ");
-    }
-    let a = nodes(out, held, f.asked);
-    say::pair(out, a, b"; this one is of type ", f.found)
-}
-
-// Ways 20 to 22: a type, or an energy, that is to be left out.
-fn unwanted(out: &mut Buffer, held: usize, f: Finding) -> usize
-    requires { held ≤ 65536 }
-    ensures { result ≤ 65536 }
-{
-    let a = say::text(out, held, b"no ");
-    if f.way != reason::BARRED_TYPE {
-        return energy(out, a, f, b" with less than ");
-    }
-    let b = nodes(out, a, f.asked);
-    say::text(out, b, b"; this one is of that type")
-}
-
-// Ways 15 to 22: what is asked of the neighbour.
-fn of_node(out: &mut Buffer, held: usize, f: Finding) -> usize
-    requires { held ≤ 65536 }
-    ensures { result ≤ 65536 }
-{
-    if f.way == reason::AGGREGATOR {
-        return say::text(out, held, b"nodes that aggregate; this one does not");
-    }
-    if f.way == reason::OVERLOADED {
-        return say::text(out, held, b"nodes that are not overloaded; this one is");
-    }
-    if f.way <= reason::UNKNOWN_ENERGY {
-        return wanted(out, held, f);
-    }
-    unwanted(out, held, f)
-}
-
-// Ways 23 to 29, 33 and 34: the limit that is asked for.
-fn limit(out: &mut Buffer, held: usize, f: Finding) -> usize
-    requires { held ≤ 65536 }
-    ensures { result ≤ 65536 }
-{
-    let way = f.way;
-    match way {
-        reason::HOPS | reason::UNKNOWN_HOPS => say::between(
-            out,
-            held,
-            b"fewer than ",
-            f.asked,
-            b" hops; ",
-        ),
-        reason::THROUGHPUT | reason::UNKNOWN_THROUGHPUT => say::between(
-            out,
-            held,
-            b"throughput of at least ",
-            f.asked,
-            b" bytes per second; ",
-        ),
-        reason::LATENCY | reason::PATH_LATENCY | reason::UNKNOWN_LATENCY => say::between(
-            out,
-            held,
-            b"latency of at most ",
-            f.asked,
-            b" microseconds; ",
-        ),
-        _ => say::between(out, held, b"link quality from 1 to ", f.asked, b"; "),
-    }
-}
-
-// The same ways: what the path or the link has.
-fn found(out: &mut Buffer, held: usize, f: Finding) -> usize
-    requires { held ≤ 65536 }
-    ensures { result ≤ 65536 }
-{
-    let way = f.way;
-    match way {
-        reason::HOPS | reason::PATH_LATENCY => say::pair(out, held, b"the path has ", f.found),
-        reason::UNKNOWN_HOPS => say::text(out, held, b"those of the path are unknown"),
-        reason::THROUGHPUT | reason::LATENCY | reason::QUALITY => say::pair(
-            out,
-            held,
-            b"this link has ",
-            f.found,
-        ),
-        _ => say::text(out, held, b"that of this link is unknown"),
-    }
-}
-
-// Puts the digits behind the point of so many 128ths, seven at most: with the seventh nothing is left.
-fn digits(out: &mut Buffer, held: usize, part: u64) -> usize
-    requires part_bound { part < 128 }
-    requires held_bound { held ≤ 65536 }
-    ensures { result ≤ 65536 }
-{
-    let mut at = held;
-    let mut left = part;
-    let mut i: usize = 0;
-    while i < 7 {
-        if left == 0 {
-            return at;
+impl fmt::Display for Nodes {
+    fn fmt<W: fmt::Write>(&self, f: &mut fmt::Formatter<W>) -> fmt::Result {
+        match self.0 {
+            0 => write!(f, "mains nodes (type 0)"),
+            1 => write!(f, "battery nodes (type 1)"),
+            2 => write!(f, "scavenger nodes (type 2)"),
+            nodetype => write!(f, "nodes of type {nodetype}"),
         }
-        at = say::number(out, at, left * 10 / 128);
-        left = left * 10 % 128;
-        i += 1;
     }
-    at
 }
 
-// Puts transmissions, as a decimal and in 128ths.
-fn times(out: &mut Buffer, held: usize, n: u64) -> usize
-    requires { held ≤ 65536 }
-    ensures { result ≤ 65536 }
-{
-    let a = say::number(out, held, n / 128);
-    if n % 128 == 0 {
-        return say::between(out, a, b" (", n, b" / 128)");
-    }
-    let b = say::byte(out, a, b'.');
-    let c = digits(out, b, n % 128);
-    say::between(out, c, b" (", n, b" / 128)")
-}
+// ETX as transmissions, with the 128ths of its field. Seven digits behind the point leave nothing of a 128th.
+#[derive(Clone, Copy)]
+struct Transmissions(u64);
 
-// Ways 30 to 32: ETX of the link or of the path.
-fn of_etx(out: &mut Buffer, held: usize, f: Finding) -> usize
-    requires { held ≤ 65536 }
-    ensures { result ≤ 65536 }
-{
-    let way = f.way;
-    let a = say::text(out, held, b"ETX of at most ");
-    let b = times(out, a, f.asked);
-    match way {
-        reason::ETX => {
-            let c = say::text(out, b, b"; this link has ");
-            times(out, c, f.found)
+impl fmt::Display for Transmissions {
+    fn fmt<W: fmt::Write>(&self, f: &mut fmt::Formatter<W>) -> fmt::Result {
+        write!(f, "{}", self.0 / 128)?;
+        let mut left = self.0 % 128;
+        if left != 0 {
+            write!(f, ".")?;
         }
-        reason::PATH_ETX => {
-            let c = say::text(out, b, b"; the path has ");
-            times(out, c, f.found)
+        for _ in 0..7 {
+            if left == 0 {
+                break;
+            }
+            write!(f, "{}", left * 10 / 128)?;
+            left = left * 10 % 128;
         }
-        _ => say::text(out, b, b"; that of this link is unknown"),
+        write!(f, " ({} / 128)", self.0)
     }
 }
 
-// Ways 23 to 36: what is asked of the path or of the link.
-fn of_way(out: &mut Buffer, held: usize, f: Finding) -> usize
-    requires { held ≤ 65536 }
-    ensures { result ≤ 65536 }
-{
-    let way = f.way;
-    match way {
-        reason::ETX | reason::PATH_ETX | reason::UNKNOWN_ETX => of_etx(out, held, f),
-        reason::LACKS_COLOUR => say::pairs(
+// What the object of an index asks, and what was found.
+pub(crate) fn unmet(out: &mut Output, place: u16, f: &Finding) -> io::Result<()> {
+    write!(out, ": object {place} asks for ")?;
+    match f.way {
+        reason::AGGREGATOR => write!(out, "nodes that aggregate; this one does not"),
+        reason::OVERLOADED => write!(out, "nodes that are not overloaded; this one is"),
+        reason::OTHER_TYPE | reason::LITTLE_ENERGY | reason::UNKNOWN_ENERGY => wanted(out, f),
+        reason::BARRED_TYPE | reason::BARRED_ENERGY | reason::BARRED_UNKNOWN => unwanted(out, f),
+        reason::ETX | reason::PATH_ETX | reason::UNKNOWN_ETX => etx(out, f),
+        _ => of_way(out, f),
+    }
+}
+
+// A type, or an energy, that is asked for.
+fn wanted(out: &mut Output, f: &Finding) -> io::Result<()> {
+    let Finding {
+        which,
+        asked,
+        found,
+        ..
+    } = *f;
+    match f.way {
+        reason::OTHER_TYPE => write!(out, "{}; this one is of type {found}", Nodes(asked)),
+        reason::LITTLE_ENERGY => write!(
             out,
-            held,
-            b"links of colour ",
-            f.asked,
-            b"; this link has colour ",
-            f.found,
+            "{} with more than {asked} % energy; this one has {found} %",
+            Nodes(which)
         ),
-        reason::HAS_COLOUR => say::pairs(
+        _ => write!(
             out,
-            held,
-            b"no links of colour ",
-            f.asked,
-            b"; this link has colour ",
-            f.found,
+            "{} with more than {asked} % energy; that of this one is unknown",
+            Nodes(which)
         ),
+    }
+}
+
+// A type, or an energy, that is to be left out.
+fn unwanted(out: &mut Output, f: &Finding) -> io::Result<()> {
+    let Finding {
+        which,
+        asked,
+        found,
+        ..
+    } = *f;
+    match f.way {
+        reason::BARRED_TYPE => write!(out, "no {}; this one is of that type", Nodes(asked)),
+        reason::BARRED_ENERGY => write!(
+            out,
+            "no {} with less than {asked} % energy; this one has {found} %",
+            Nodes(which)
+        ),
+        _ => write!(
+            out,
+            "no {} with less than {asked} % energy; that of this one is unknown",
+            Nodes(which)
+        ),
+    }
+}
+
+// ETX of the link or of the path.
+fn etx(out: &mut Output, f: &Finding) -> io::Result<()> {
+    let found = Transmissions(f.found);
+    write!(out, "ETX of at most {}; ", Transmissions(f.asked))?;
+    match f.way {
+        reason::ETX => write!(out, "this link has {found}"),
+        reason::PATH_ETX => write!(out, "the path has {found}"),
+        _ => write!(out, "that of this link is unknown"),
+    }
+}
+
+// A limit on the path or the link: what is asked of it.
+fn limit(out: &mut Output, f: &Finding) -> io::Result<()> {
+    let asked = f.asked;
+    match f.way {
+        reason::HOPS | reason::UNKNOWN_HOPS => write!(out, "fewer than {asked} hops; "),
+        reason::THROUGHPUT | reason::UNKNOWN_THROUGHPUT => {
+            write!(out, "throughput of at least {asked} bytes per second; ")
+        }
+        reason::LATENCY | reason::PATH_LATENCY | reason::UNKNOWN_LATENCY => {
+            write!(out, "latency of at most {asked} microseconds; ")
+        }
+        _ => write!(out, "link quality from 1 to {asked}; "),
+    }
+}
+
+// What is asked of the path or of the link.
+fn of_way(out: &mut Output, f: &Finding) -> io::Result<()> {
+    let Finding { asked, found, .. } = *f;
+    match f.way {
+        reason::LACKS_COLOUR => {
+            write!(out, "links of colour {asked}; this link has colour {found}")
+        }
+        reason::HAS_COLOUR => {
+            write!(
+                out,
+                "no links of colour {asked}; this link has colour {found}"
+            )
+        }
+        reason::HOPS | reason::PATH_LATENCY => {
+            limit(out, f)?;
+            write!(out, "the path has {found}")
+        }
+        reason::UNKNOWN_HOPS => {
+            limit(out, f)?;
+            write!(out, "those of the path are unknown")
+        }
+        reason::THROUGHPUT | reason::LATENCY | reason::QUALITY => {
+            limit(out, f)?;
+            write!(out, "this link has {found}")
+        }
         _ => {
-            let a = limit(out, held, f);
-            found(out, a, f)
+            limit(out, f)?;
+            write!(out, "that of this link is unknown")
         }
     }
-}
-
-// Ways 15 to 36: what the object of an index asks, and what was found.
-pub(crate) fn unmet(out: &mut Buffer, held: usize, place: u16, f: Finding) -> usize
-    requires { held ≤ 65536 }
-    ensures { result ≤ 65536 }
-{
-    let a = say::between(out, held, b"object ", place as u64, b" asks for ");
-    if f.way <= reason::BARRED_UNKNOWN {
-        return of_node(out, a, f);
-    }
-    of_way(out, a, f)
 }

@@ -1,151 +1,79 @@
 // The lines of an answered call.
-ghost use Rattle.std.specs.Prelude.{◌≤◌};
-
-use crate::say;
-use crate::say::Buffer;
+use crate::output::Output;
 use model::Answer;
+use std::io;
+use std::io::Write;
 
-const HEX: [u8; 16] = *b"0123456789ABCDEF";
-
-// Puts a line of a word and a number.
-fn line(out: &mut Buffer, held: usize, word: &[u8], n: u64) -> usize
-    requires { held ≤ 65536 }
-    ensures { result ≤ 65536 }
-{
-    let a = say::pair(out, held, word, n);
-    say::byte(out, a, b'\n')
+// Writes what a number means, behind `: `.
+pub(crate) fn meaning(out: &mut Output, number: u8) -> io::Result<()> {
+    let mut words = [0u8; meaning::MEANING_ROOM];
+    let n = meaning::put_meaning(number, &mut words);
+    out.write_all(b": ")?;
+    out.write_all(&words[..n])
 }
 
-// Puts what a number means, behind `: `, and ends the line.
-fn meaning(out: &mut Buffer, held: usize, number: u8) -> usize
-    requires { held ≤ 65536 }
-    ensures { result ≤ 65536 }
-{
-    let a = say::meaning(out, held, number);
-    say::byte(out, a, b'\n')
-}
-
-// Puts the line of a verdict.
-fn verdict(out: &mut Buffer, held: usize, position: usize, number: u8, place: u16) -> usize
-    requires { held ≤ 65536 }
-    ensures { result ≤ 65536 }
-{
-    let a = say::pair(out, held, b"candidate ", position as u64);
-    let b = say::pair(out, a, b" verdict ", number as u64);
-    if place == 65535 {
-        return meaning(out, b, number);
-    }
-    let c = say::pair(out, b, b" object ", place as u64);
-    meaning(out, c, number)
-}
-
-// Puts a line for each candidate.
-fn verdicts(out: &mut Buffer, held: usize, answer: Answer, count: usize) -> usize
-    requires held_bound { held ≤ 65536 }
-    requires count_bound { count ≤ 16 }
-    ensures { result ≤ 65536 }
-{
-    let numbers = answer.verdicts;
-    let places = answer.places;
-    let mut at = held;
-    let mut i = 0;
-    while i < count {
-        at = verdict(out, at, i, numbers[i], places[i]);
-        i += 1;
-    }
-    at
-}
-
-// Puts the lines of the parent and of the rank.
-fn parent(out: &mut Buffer, held: usize, answer: Answer) -> usize
-    requires { held ≤ 65536 }
-    ensures { result ≤ 65536 }
-{
-    if answer.parent == 255 {
-        return say::text(out, held, b"parent none\nrank none\n");
-    }
-    let a = line(out, held, b"parent ", answer.parent as u64);
-    line(out, a, b"rank ", answer.rank.0 as u64)
-}
-
-// Puts the line of the leaf answer.
-fn leaf(out: &mut Buffer, held: usize, number: u8) -> usize
-    requires { held ≤ 65536 }
-    ensures { result ≤ 65536 }
-{
-    let a = say::pair(out, held, b"leaf ", number as u64);
-    if number == 0 {
-        return say::text(out, a, b": no leaf answer\n");
-    }
-    meaning(out, a, number)
-}
-
-// Puts a byte in hexadecimal, behind a space.
-fn hex(out: &mut Buffer, held: usize, b: u8) -> usize
-    requires { held ≤ 65536 }
-    ensures { result ≤ 65536 }
-{
-    let high = HEX[(b / 16) as usize];
-    let low = HEX[(b % 16) as usize];
-    let c = say::byte(out, held, b' ');
-    let d = say::byte(out, c, high);
-    say::byte(out, d, low)
-}
-
-// Puts the first bytes of an output, each behind a space, so many as the size says.
-fn bytes(out: &mut Buffer, held: usize, sent: &[u8], size: u16) -> usize
-    requires { held ≤ 65536 }
-    ensures { result ≤ 65536 }
-{
-    let n = size as usize;
-    let mut at = held;
-    let mut i = 0;
-    while i < sent.len() {
-        if n <= i {
-            return at;
+// Writes a line for each candidate.
+fn verdicts(out: &mut Output, answer: &Answer, count: usize) -> io::Result<()> {
+    let verdicts = answer.verdicts.iter().zip(&answer.places);
+    for (position, (number, place)) in verdicts.take(count).enumerate() {
+        write!(out, "candidate {position} verdict {number}")?;
+        if *place != 65535 {
+            write!(out, " object {place}")?;
         }
-        at = hex(out, at, sent[i]);
-        i += 1;
+        meaning(out, *number)?;
+        writeln!(out)?;
     }
-    at
+    Ok(())
 }
 
-// Puts the lines of the length and of the container.
-fn container(out: &mut Buffer, held: usize, sent: &[u8], size: u16) -> usize
-    requires { held ≤ 65536 }
-    ensures { result ≤ 65536 }
-{
-    let a = line(out, held, b"length ", size as u64);
-    let b = say::text(out, a, b"container");
-    if size == 0 {
-        return say::text(out, b, b" none\n");
+// Writes the lines of the parent and of the rank.
+fn parent(out: &mut Output, answer: &Answer) -> io::Result<()> {
+    if answer.parent == 255 {
+        return writeln!(out, "parent none\nrank none");
     }
-    let c = bytes(out, b, sent, size);
-    say::byte(out, c, b'\n')
+    writeln!(out, "parent {}\nrank {}", answer.parent, answer.rank.0)
 }
 
-// Puts the lines of a call, the so-manieth of the input.
+// Writes the line of the leaf answer.
+fn leaf(out: &mut Output, number: u8) -> io::Result<()> {
+    write!(out, "leaf {number}")?;
+    if number == 0 {
+        return writeln!(out, ": no leaf answer");
+    }
+    meaning(out, number)?;
+    writeln!(out)
+}
+
+// Writes the lines of the length and of the containers.
+fn containers(out: &mut Output, sent: &[u8]) -> io::Result<()> {
+    write!(out, "length {}\ncontainer", sent.len())?;
+    if sent.is_empty() {
+        return writeln!(out, " none");
+    }
+    for byte in sent {
+        write!(out, " {byte:02X}")?;
+    }
+    writeln!(out)
+}
+
+// Writes the lines of a call, the so-manieth of the input.
 pub(crate) fn call(
-    out: &mut Buffer,
-    held: usize,
+    out: &mut Output,
     calls: u64,
-    answer: Answer,
+    answer: &Answer,
     count: usize,
     sent: &[u8],
-) -> usize
-    requires held_bound { held ≤ 65536 }
-    requires count_bound { count ≤ 16 }
-    ensures { result ≤ 65536 }
-{
-    let a = line(out, held, b"call ", calls);
+) -> io::Result<()> {
+    writeln!(out, "call {calls}")?;
     if answer.refusal != 0 {
-        let b = say::pair(out, a, b"refused ", answer.refusal as u64);
-        return meaning(out, b, answer.refusal);
+        write!(out, "refused {}", answer.refusal)?;
+        meaning(out, answer.refusal)?;
+        return writeln!(out);
     }
-    let b = verdicts(out, a, answer, count);
-    let c = parent(out, b, answer);
-    let d = line(out, c, b"bits ", answer.bits as u64);
-    let e = line(out, d, b"count ", answer.count as u64);
-    let f = leaf(out, e, answer.leaf);
-    container(out, f, sent, answer.size)
+    verdicts(out, answer, count)?;
+    parent(out, answer)?;
+    writeln!(out, "bits {}\ncount {}", answer.bits, answer.count)?;
+    leaf(out, answer.leaf)?;
+    let size = (answer.size as usize).min(sent.len());
+    containers(out, &sent[..size])
 }

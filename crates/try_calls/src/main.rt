@@ -12,187 +12,90 @@
 // end among them; of a longer one each 65,536 bytes are taken for a line.
 #![tactic(auto)]
 
-ghost use Rattle.std.specs.Prelude.{◌≤◌, length};
-
-use crate::say::Sink;
+use crate::case::{Case, MOST_ROOM};
+use crate::fields::Fields;
+use crate::input::Input;
 use std::io;
-use std::io::{Read, Stdin};
+use std::io::{Stdout, Write};
 
 mod case;
 mod fields;
+mod input;
 mod say;
 
 // How often the buffer is filled at most: a bound for the loop, which only an input of some gigabytes reaches.
 const TURNS: u32 = 65536;
 
-// Standard input, and the error of the first read that failed: nothing is read after it.
-#[derive(Drop)]
-struct Source {
-    reader: Stdin,
-    failed: Option<io::Error>,
-}
-
-// What is left of a reading: the bytes held at the front of the buffer, and whether the input is at its end.
-#[derive(Clone, Copy)]
-struct Left {
-    held: usize,
-    ended: bool,
-}
-
-// Writes the reason at each candidate on the line of a case, and at the position behind them.
-fn explain_case(to: &mut Sink, given: case::Case, lent: &[u8]) {
+// Calls on a case, and writes the answer and the reason at each candidate on its line and at the position behind them.
+fn run_case(out: &mut Stdout, given: &Case, lent: &[u8]) -> io::Result<()> {
+    let mut sent = [0xEEu8; MOST_ROOM];
     let candidates = given.candidates;
-    let n = case::shown(given.count);
-    say::text(to, b" why");
-    let mut i: usize = 0;
-    while i <= n {
-        say::reason(
-            to,
-            reason::explain(given.own, candidates, given.count, lent, i),
-        );
-        i += 1;
+    let answer = choice::call(
+        given.own,
+        candidates,
+        given.count,
+        lent,
+        &mut sent[..given.room],
+    );
+    say::answer(out, &answer, given.count, &sent)?;
+    write!(out, " why")?;
+    for position in 0..=given.shown() {
+        let why = reason::explain(given.own, candidates, given.count, lent, position);
+        say::reason(out, &why)?;
     }
-    say::text(to, b"\n");
-}
-
-// Calls on a case, with an output of its room at the start of out, and writes the answer and the reasons.
-fn run_case(to: &mut Sink, given: case::Case, lent: &[u8], out: &mut [u8])
-    requires { given.room ≤ length out.old }
-{
-    let room = given.room;
-    let candidates = given.candidates;
-    let answer = choice::call(given.own, candidates, given.count, lent, &mut out[..room]);
-    say::answer(to, answer, given.count, out);
-    explain_case(to, given, lent);
+    writeln!(out)
 }
 
 // One line: its name, then the answer.
-fn run_line(to: &mut Sink, line: &[u8]) {
-    let space = words::find(line, 0, b' ');
-    say::text(to, &line[..space]);
-    let given = case::read(line, space);
-    let at = given.next;
-    if (space == 0) | (at == 0) {
-        say::unreadable(to, space);
-        return;
+fn run_line(out: &mut Stdout, line: &[u8]) -> io::Result<()> {
+    let (name, behind) = line.split_at(words::find(line, 0, b' '));
+    if name.is_empty() {
+        return writeln!(out, "unreadable");
     }
-    let mut lent = [0u8; 65536];
-    let n = words::bytes(&line[at..], &mut lent);
-    if n * 3 != line.len() - at {
-        say::unreadable(to, space);
-        return;
-    }
-    let mut out = [0xEEu8; 2100];
-    run_case(to, given, &lent[..n], &mut out);
-}
-
-// Moves the bytes from an index on to the front of a text, and answers how many they are.
-fn move_to_front(text: &mut [u8], from: usize) -> usize
-    requires { from ≤ length text.old }
-    ensures { result ≤ length text.new }
-{
-    let n = text.len() - from;
-    let mut i = 0;
-    while i < n {
-        text[i] = text[from + i];
-        i += 1;
-    }
-    n
-}
-
-// Runs each line of a text that has an end, moves what is behind the last end to the front, and answers how long that is.
-fn run_lines(to: &mut Sink, text: &mut [u8]) -> usize
-    ensures { result ≤ length text.new }
-{
-    let mut at = 0;
-    while at < text.len() {
-        let end = words::find(text, at, b'\n');
-        if end == text.len() {
-            return move_to_front(text, at);
-        }
-        run_line(to, &text[at..end]);
-        at = end + 1;
-    }
-    0
-}
-
-// Reads until a buffer is full, the input ends or a read fails, and answers how many bytes stand at its start.
-fn read_full(from: &mut Source, buffer: &mut [u8]) -> usize
-    ensures { result ≤ length buffer.new }
-{
-    let mut done = 0;
-    while done < buffer.len() {
-        if from.failed.is_some() {
-            return done;
-        }
-        match from.reader.read(&mut buffer[done..]) {
-            Ok(0) => return done,
-            Ok(n) => done += n,
-            Err(e) => {
-                from.failed = Some(e);
-                return done;
-            }
+    out.write_all(name)?;
+    let mut fields = Fields { rest: behind };
+    if let Some(given) = Case::read(&mut fields) {
+        let mut lent = [0u8; 65536];
+        let n = words::bytes(fields.rest, &mut lent);
+        if n * 3 == fields.rest.len() {
+            return run_case(out, &given, &lent[..n]);
         }
     }
-    done
+    writeln!(out, " unreadable")
 }
 
-// Reads on behind the bytes that are held, as far as the buffer reaches; answers how many are held then.
-fn fill(from: &mut Source, buffer: &mut [u8], held: usize) -> usize
-    requires { held ≤ length buffer.old }
-    ensures { (held ≤ result) × (result ≤ length buffer.new) }
-{
-    let n = read_full(from, &mut buffer[held..]);
-    held + n
+// Runs each line of a text that has an end, and answers how long what stands behind the last end is.
+fn run_lines(out: &mut Stdout, text: &[u8]) -> io::Result<usize> {
+    let mut lines = text.split(|byte| *byte == b'\n');
+    let last = lines.next_back().unwrap_or(&[]);
+    for line in lines {
+        run_line(out, line)?;
+    }
+    Ok(last.len())
 }
 
-// Reads on and runs what has come. What no line's end comes behind, at the end of the input or of the buffer, is a line too.
-fn turn(from: &mut Source, to: &mut Sink, buffer: &mut [u8], held: usize) -> Left
-    requires { held ≤ length buffer.old }
-    ensures { result.held ≤ length buffer.new }
-{
-    let end = fill(from, buffer, held);
-    if held < end {
-        return Left {
-            held: run_lines(to, &mut buffer[..end]),
-            ended: false,
-        };
+// Runs all cases: reads on, and runs what has come. What no line's end comes behind, at the end of the input or of the buffer, is a line too.
+fn run(input: &mut Input, out: &mut Stdout) -> io::Result<()> {
+    for _ in 0..TURNS {
+        if input.fill() {
+            let held = run_lines(out, input.bytes())?;
+            input.keep(held);
+        } else if input.bytes().is_empty() {
+            return Ok(());
+        } else {
+            run_line(out, input.bytes())?;
+            input.keep(0);
+        }
     }
-    if held == 0 {
-        return Left {
-            held: 0,
-            ended: true,
-        };
-    }
-    run_line(to, &buffer[..held]);
-    Left {
-        held: 0,
-        ended: false,
-    }
+    Ok(())
 }
 
 fn main(rt: HostRuntime) -> io::Result<()> {
-    let mut from = Source {
-        reader: rt.stdin(),
-        failed: None,
-    };
-    let mut to = Sink {
-        writer: rt.stdout(),
-        failed: None,
-    };
-    let mut input = [0u8; 65536];
-    let mut held = 0;
-    let mut turns = TURNS;
-    while 0 < turns {
-        turns -= 1;
-        let done = turn(&mut from, &mut to, &mut input, held);
-        if done.ended | to.failed.is_some() {
-            break;
-        }
-        held = done.held;
-    }
-    match from.failed.or(to.failed) {
+    let mut input = Input::from(rt.stdin());
+    let mut out = rt.stdout();
+    let answered = run(&mut input, &mut out);
+    match input.failed {
         Some(e) => Err(e),
-        None => Ok(()),
+        None => answered,
     }
 }

@@ -2,128 +2,81 @@
 use model::Answer;
 use reason::Reason;
 use std::io;
-use std::io::Stdout;
+use std::io::{Stdout, Write};
 
-// Standard output, and the error of the first write that failed: nothing is written after it.
-#[derive(Drop)]
-pub struct Sink {
-    pub writer: Stdout,
-    pub failed: Option<io::Error>,
-}
-
-const HEX: [u8; 16] = *b"0123456789abcdef";
-
-pub fn text(to: &mut Sink, bytes: &[u8]) {
-    if to.failed.is_none() {
-        to.failed = to.writer.write_all(bytes).err();
-    }
-}
-
-// A number behind a mark.
-fn behind(to: &mut Sink, mark: &[u8], n: u64) {
-    text(to, mark);
-    let mut digits = itoa::Buffer::new();
-    text(to, digits.format(n).as_bytes());
-}
-
-// A number behind a space.
-fn number(to: &mut Sink, n: u64) {
-    behind(to, b" ", n);
-}
-
-// A byte behind a space.
-fn byte(to: &mut Sink, b: u8) {
-    text(to, &[b' ', HEX[(b / 16) as usize], HEX[(b % 16) as usize]]);
-}
-
-// The end of a line that is not a case, behind a name of so many bytes.
-pub fn unreadable(to: &mut Sink, size: usize) {
-    if 0 < size {
-        text(to, b" ");
-    }
-    text(to, b"unreadable\n");
-}
-
-// A verdict, and its place if it has one.
-fn verdict(to: &mut Sink, v: u8, place: u16) {
-    number(to, v as u64);
-    if place != 65535 {
-        behind(to, b"@", place as u64);
-    }
+// The answer of a call with so many candidates, and the output behind it.
+pub(crate) fn answer(
+    out: &mut Stdout,
+    given: &Answer,
+    count: usize,
+    sent: &[u8],
+) -> io::Result<()> {
+    let Answer {
+        refusal,
+        parent,
+        rank,
+        bits,
+        count: unbarred,
+        leaf,
+        size,
+        ..
+    } = *given;
+    write!(
+        out,
+        " {refusal} {parent} {} {bits} {unbarred} {leaf} {size} verdicts",
+        rank.0
+    )?;
+    verdicts(out, given, count)?;
+    write!(out, " output")?;
+    output(out, sent, size as usize)
 }
 
 // The verdicts of the first candidates, so many as the count says, and whether any other is set.
-fn verdicts(to: &mut Sink, answer: Answer, count: usize) {
-    let numbers = answer.verdicts;
-    let places = answer.places;
-    let mut beyond = false;
-    let mut i = 0;
-    while i < 16 {
-        let v = numbers[i];
-        let place = places[i];
-        if i < count {
-            verdict(to, v, place);
-        } else {
-            beyond = beyond | (v != 0) | (place != 65535);
-        }
-        i += 1;
+fn verdicts(out: &mut Stdout, given: &Answer, count: usize) -> io::Result<()> {
+    for (number, place) in given.verdicts.iter().zip(&given.places).take(count) {
+        verdict(out, *number, *place)?;
     }
-    if beyond {
-        text(to, b" beyond");
+    let mut beyond = given.verdicts.iter().zip(&given.places).skip(count);
+    if beyond.any(|(number, place)| *number != 0 || *place != 65535) {
+        write!(out, " beyond")?;
     }
+    Ok(())
+}
+
+// A verdict, and its place if it has one.
+fn verdict(out: &mut Stdout, number: u8, place: u16) -> io::Result<()> {
+    write!(out, " {number}")?;
+    if place != 65535 {
+        write!(out, "@{place}")?;
+    }
+    Ok(())
 }
 
 // The first bytes of an output, so many as the size says, and whether all others are as before.
-fn output(to: &mut Sink, out: &[u8], size: u16) {
-    let n = size as usize;
-    let mut kept = true;
-    let mut i = 0;
-    while i < out.len() {
-        let b = out[i];
-        if i < n {
-            byte(to, b);
-        } else {
-            kept = kept & (b == 0xEE);
-        }
-        i += 1;
+fn output(out: &mut Stdout, sent: &[u8], size: usize) -> io::Result<()> {
+    for byte in sent.iter().take(size) {
+        write!(out, " {byte:02x}")?;
     }
-    if kept {
-        text(to, b" kept");
+    if sent.iter().skip(size).all(|byte| *byte == 0xEE) {
+        write!(out, " kept")
     } else {
-        text(to, b" changed");
+        write!(out, " changed")
     }
-}
-
-// The answer of a call with so many candidates, and the output behind it.
-pub fn answer(to: &mut Sink, given: Answer, count: usize, out: &[u8]) {
-    number(to, given.refusal as u64);
-    number(to, given.parent as u64);
-    number(to, given.rank.0 as u64);
-    number(to, given.bits as u64);
-    number(to, given.count as u64);
-    number(to, given.leaf as u64);
-    number(to, given.size as u64);
-    text(to, b" verdicts");
-    verdicts(to, given, count);
-    text(to, b" output");
-    output(to, out, given.size);
-}
-
-// Who beats a candidate, on what criterion, and what the two have there.
-fn beaten(to: &mut Sink, why: Reason) {
-    number(to, why.parent as u64);
-    behind(to, b":", why.criterion as u64);
-    behind(to, b":", why.value as u64);
-    behind(to, b":", why.against as u64);
 }
 
 // A reason, as one word.
-pub fn reason(to: &mut Sink, why: Reason) {
-    let kind = why.kind;
-    match kind {
-        reason::REFUSED => behind(to, b" refused-", why.refusal as u64),
-        reason::CHOSEN => text(to, b" chosen"),
-        reason::BARRED => verdict(to, why.number, why.place),
-        _ => beaten(to, why),
+pub(crate) fn reason(out: &mut Stdout, why: &Reason) -> io::Result<()> {
+    let Reason {
+        parent,
+        criterion,
+        value,
+        against,
+        ..
+    } = *why;
+    match why.kind {
+        reason::REFUSED => write!(out, " refused-{}", why.refusal),
+        reason::CHOSEN => write!(out, " chosen"),
+        reason::BARRED => verdict(out, why.number, why.place),
+        _ => write!(out, " {parent}:{criterion}:{value}:{against}"),
     }
 }

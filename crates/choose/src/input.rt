@@ -1,0 +1,46 @@
+// Standard input.
+use arrayvec::ArrayVec;
+use std::io;
+use std::io::{Read, Stdin};
+
+// The bytes that are read and not looked at yet, and the error of the first read that failed: nothing is read after it.
+#[derive(Drop)]
+pub struct Input {
+    pub failed: Option<io::Error>,
+    held: ArrayVec<u8, 65536>,
+    reader: Stdin,
+}
+
+impl Input {
+    pub(crate) fn from(reader: Stdin) -> Input {
+        Input {
+            failed: None,
+            held: ArrayVec::new(),
+            reader,
+        }
+    }
+
+    // Reads on until there is no more room, the input ends or a read fails.
+    pub(crate) fn fill(&mut self) {
+        if self.failed.is_none() {
+            let room = self.held.remaining_capacity() as u64;
+            self.failed = io::copy(&mut (&self.reader).take(room), &mut self.held).err();
+        }
+    }
+
+    pub(crate) fn bytes(&self) -> &[u8] {
+        self.held.as_slice()
+    }
+
+    // Whether there may be more to come.
+    pub(crate) fn is_full(&self) -> bool {
+        self.held.is_full()
+    }
+
+    // Keeps so many of the last bytes.
+    pub(crate) fn keep(&mut self, n: usize) {
+        let from = self.held.len().saturating_sub(n);
+        self.held.as_mut_slice().copy_within(from.., 0);
+        self.held.truncate(n);
+    }
+}

@@ -1,0 +1,118 @@
+// What is left of a line: words, numbers and bytes.
+ghost use Rattle.std.specs.Prelude.{length};
+ghost use Rattle.std.specs.Iterator.{at_most};
+
+use crate::fault::Fault;
+use crate::setting::Setting;
+use std::num::TryFromIntError;
+use words::{Decimal, HexByte};
+
+// A field's type, with its largest number.
+pub trait Field: TryFrom<u64, Error = TryFromIntError> {
+    const MOST: u64;
+}
+
+impl Field for u8 {
+    const MOST: u64 = 255;
+}
+
+impl Field for u16 {
+    const MOST: u64 = 65535;
+}
+
+impl Field for u32 {
+    const MOST: u64 = 4294967295;
+}
+
+impl Field for usize {
+    const MOST: u64 = 18446744073709551615;
+}
+
+#[derive(Clone, Copy)]
+pub struct Rest<'a> {
+    bytes: &'a [u8],
+}
+
+impl<'a> Rest<'a> {
+    pub(crate) fn of(line: &'a [u8]) -> Rest<'a> {
+        Rest { bytes: line }
+    }
+
+    // The next word; none at the line's end or at a comment.
+    pub(crate) fn word(&mut self) -> Option<&'a [u8]> {
+        let text = &self.bytes[words::word_start(self.bytes, 0)..];
+        let (word, behind) = text.split_at(words::word_end(text, 0));
+        if word.is_empty() {
+            return None;
+        }
+        self.bytes = behind;
+        Some(word)
+    }
+
+    // The number behind a setting, which is at most so large. Behind another word the line stays as it is: that word is still to come.
+    pub(crate) fn up_to(&mut self, setting: Setting, most: u64) -> Result<u64, Fault> {
+        let mut behind = *self;
+        let word = behind.word().ok_or(Fault::NoNumber(setting))?;
+        match words::number(word) {
+            Decimal::Value(n) if n <= most => {
+                *self = behind;
+                Ok(n)
+            }
+            Decimal::Value(_) | Decimal::TooLarge => Err(Fault::TooLarge(setting, most)),
+            Decimal::NotANumber => Err(Fault::NoNumber(setting)),
+        }
+    }
+
+    // The number behind a setting, for a field.
+    pub(crate) fn number<T: Field>(&mut self, setting: Setting) -> Result<T, Fault> {
+        let n = self.up_to(setting, T::MOST)?;
+        T::try_from(n).map_err(|_| Fault::TooLarge(setting, T::MOST))
+    }
+
+    // The bytes that are left, up to a comment.
+    pub(crate) fn hex(self) -> HexBytes<'a> {
+        HexBytes { text: self.bytes }
+    }
+
+    // Leaves nothing of the line.
+    pub(crate) fn end(&mut self) {
+        self.bytes = &[];
+    }
+}
+
+// What is not two hexadecimal digits.
+#[derive(Clone, Copy)]
+pub struct NotHex;
+
+// The bytes of a text, each of two hexadecimal digits, up to a comment.
+#[derive(Clone, Copy)]
+pub struct HexBytes<'a> {
+    text: &'a [u8],
+}
+
+impl Iterator for HexBytes<'_> {
+    type Item = Result<u8, NotHex>;
+
+    ghost remaining = { λ s. at_most (length s.text.now) };
+
+    fn next(&mut self) -> Option<Result<u8, NotHex>> {
+        match &self.text[words::word_start(self.text, 0)..] {
+            [] | [b'#', ..] => None,
+            [_] => {
+                self.text = &[];
+                Some(Err(NotHex))
+            }
+            [high, low, behind @ ..] => {
+                self.text = behind;
+                Some(byte(*high, *low))
+            }
+        }
+    }
+}
+
+fn byte(high: u8, low: u8) -> Result<u8, NotHex> {
+    match words::byte(high, low) {
+        HexByte::Byte(byte) => Ok(byte),
+        HexByte::NotHex => Err(NotHex),
+    }
+}
