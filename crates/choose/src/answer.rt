@@ -10,7 +10,7 @@ pub(crate) fn write(out: &mut Output, calls: u64, told: &Call) -> io::Result<()>
     let room = told.own.room.min(own::MOST_ROOM);
     let answer = choice::call(
         told.own.own,
-        told.list(),
+        &told.list(),
         told.candidates.len(),
         told.lent.bytes(),
         &mut sent[..room],

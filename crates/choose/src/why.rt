@@ -3,11 +3,12 @@ use crate::call::Call;
 use crate::candidate::CandidateSettings;
 use crate::output::Output;
 use crate::{report, sentences};
-use reason::Reason;
+use choice::{Criterion, Difference};
+use reason::{Refused, Standing};
 use std::io;
 use std::io::Write;
 
-// What a reason's place is where no object bars.
+// What a place is where no object bars.
 const NO_PLACE: u16 = 65535;
 
 // Writes the line of the candidate at a position.
@@ -15,57 +16,62 @@ pub(crate) fn line(out: &mut Output, told: &Call, position: usize) -> io::Result
     let own = told.own.own;
     let count = told.candidates.len();
     let lent = told.lent.bytes();
-    let why = reason::explain(own, told.list(), count, lent, position);
+    let answer = reason::ask(own, &told.list(), count, lent, position);
     write!(out, "why {position}: ")?;
-    reason(out, &why)?;
+    reason(out, answer)?;
     if let Some(one) = told.candidates.as_slice().get(position)
-        && is_told(&why, one)
+        && let Ok(Standing::Barred { number, place }) = answer
+        && is_told(number, one)
+        && let Some(shortfall) = reason::shortfall(own, one.candidate, lent)
     {
-        let finding = reason::examine(own, one.candidate, lent);
-        sentences::write(out, why.place, &finding)?;
+        sentences::write(out, place, &shortfall)?;
     }
     writeln!(out)
 }
 
 // Whether there is a sentence on what was asked and found. Of a run that was fed in parts only what reads alike is kept, so that there is none
 // where its options bar.
-fn is_told(why: &Reason, one: &CandidateSettings) -> bool {
-    let by_options = why.number == 22 || why.number == 23;
-    why.kind == reason::BARRED && !(one.is_parted() && by_options)
+fn is_told(number: u8, one: &CandidateSettings) -> bool {
+    let by_options = number == 22 || number == 23;
+    !(one.is_parted() && by_options)
 }
 
-// Writes a reason by its kind.
-fn reason(out: &mut Output, why: &Reason) -> io::Result<()> {
-    match why.kind {
-        reason::REFUSED => {
-            write!(out, "refused {}", why.refusal)?;
-            report::meaning(out, why.refusal)
+// Writes where a candidate stands, or why that is not told.
+fn reason(out: &mut Output, answer: Result<Standing, Refused>) -> io::Result<()> {
+    match answer {
+        Err(refused) => {
+            let number = refused.number();
+            write!(out, "refused {number}")?;
+            report::meaning(out, number)
         }
-        reason::CHOSEN => write!(out, "chosen"),
-        reason::BARRED => {
-            write!(out, "barred by number {}", why.number)?;
-            if why.place != NO_PLACE {
-                write!(out, " at object {}", why.place)?;
+        Ok(Standing::Chosen) => write!(out, "chosen"),
+        Ok(Standing::Barred { number, place }) => {
+            write!(out, "barred by number {number}")?;
+            if place != NO_PLACE {
+                write!(out, " at object {place}")?;
             }
-            report::meaning(out, why.number)
+            report::meaning(out, number)
         }
-        _ => {
-            write!(out, "beaten by candidate {}", why.parent)?;
-            beaten(out, why)
+        Ok(Standing::Beaten { parent, difference }) => {
+            write!(out, "beaten by candidate {parent}")?;
+            beaten(out, difference)
         }
     }
 }
 
 // Writes on what a candidate is beaten. On grounded it is by one that is.
-fn beaten(out: &mut Output, why: &Reason) -> io::Result<()> {
-    let value = why.value;
-    let against = why.against;
-    match why.criterion {
-        choice::ORDER => write!(out, " on interface order: {value} against {against}"),
-        choice::GROUNDED => write!(out, " on grounded: no against yes"),
-        choice::PREFERENCE => write!(out, " on root preference: {value} against {against}"),
-        choice::RANK => write!(out, " on rank: {value} against {against}"),
-        choice::CURRENT => write!(out, ", the current parent"),
-        _ => write!(out, " on position"),
+fn beaten(out: &mut Output, difference: Difference) -> io::Result<()> {
+    let Difference {
+        criterion,
+        value,
+        against,
+    } = difference;
+    match criterion {
+        Criterion::Order => write!(out, " on interface order: {value} against {against}"),
+        Criterion::Grounded => write!(out, " on grounded: no against yes"),
+        Criterion::Preference => write!(out, " on root preference: {value} against {against}"),
+        Criterion::Rank => write!(out, " on rank: {value} against {against}"),
+        Criterion::Current => write!(out, ", the current parent"),
+        Criterion::Position => write!(out, " on position"),
     }
 }

@@ -29,7 +29,7 @@ const TURNS: u32 = 65536;
 // Calls on a case, and writes the answer and the reason at each candidate on its line and at the position behind them.
 fn run_case(out: &mut Stdout, given: &Case, lent: &[u8]) -> io::Result<()> {
     let mut sent = [0xEEu8; MOST_ROOM];
-    let candidates = given.candidates;
+    let candidates = &given.candidates;
     let answer = choice::call(
         given.own,
         candidates,

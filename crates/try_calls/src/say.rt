@@ -1,6 +1,6 @@
 // Writing the answer of a case, and the reasons.
 use model::Answer;
-use reason::Reason;
+use reason::{Kind, Reason};
 use std::io;
 use std::io::{Stdout, Write};
 
@@ -64,6 +64,13 @@ fn output(out: &mut Stdout, sent: &[u8], size: usize) -> io::Result<()> {
     }
 }
 
+// The kinds of a reason by number, as C reads them; another is of one that is beaten.
+const REFUSED: u8 = Kind::Refused as u8;
+
+const CHOSEN: u8 = Kind::Chosen as u8;
+
+const BARRED: u8 = Kind::Barred as u8;
+
 // A reason, as one word.
 pub(crate) fn reason(out: &mut Stdout, why: &Reason) -> io::Result<()> {
     let Reason {
@@ -74,9 +81,9 @@ pub(crate) fn reason(out: &mut Stdout, why: &Reason) -> io::Result<()> {
         ..
     } = *why;
     match why.kind {
-        reason::REFUSED => write!(out, " refused-{}", why.refusal),
-        reason::CHOSEN => write!(out, " chosen"),
-        reason::BARRED => verdict(out, why.number, why.place),
+        REFUSED => write!(out, " refused-{}", why.refusal),
+        CHOSEN => write!(out, " chosen"),
+        BARRED => verdict(out, why.number, why.place),
         _ => write!(out, " {parent}:{criterion}:{value}:{against}"),
     }
 }
