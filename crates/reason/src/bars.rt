@@ -7,7 +7,7 @@ ghost use Rattle.reason.specs.Finding.{run_finding, bar_finding, finding_of};
 ghost use Rattle.reason.specs.Told.{finding_in};
 
 use crate::findings::{Finding, Shortfall};
-use crate::{frames, objects, options, ranges};
+use crate::{findings, frames, objects, options, ranges};
 use model::{Candidate, Neighbour, Own, Verdict};
 
 // Bars 14, 19, 22 and 23, by the run; 14 bars only one whose options are whole.
@@ -58,5 +58,8 @@ pub fn shortfall(own: Own, candidate: Candidate, lent: &[u8]) -> Option<Shortfal
 pub fn examine(own: Own, candidate: Candidate, lent: &[u8]) -> Finding
     ensures { result ≡ finding_of own candidate lent.now }
 {
-    shortfall(own, candidate, lent).into()
+    match shortfall(own, candidate, lent) {
+        Some(shortfall) => shortfall.into(),
+        None => findings::nothing(),
+    }
 }

@@ -1,8 +1,8 @@
 // What was asked of a candidate that is barred, and what was found.
 ghost use Rattle.std.specs.Prelude.{◌≡◌};
-ghost use Rattle.reason.specs.Finding.{finding};
+ghost use Rattle.reason.specs.Finding.{nothing};
 ghost use Rattle.reason.specs.Way.{number_of};
-ghost use Rattle.reason.specs.Told.{finding_in};
+ghost use Rattle.reason.specs.Told.{by_number};
 
 // In what way a candidate falls short; its numbers have the names that `Shortfall` gives them.
 #[derive(Clone, Copy, PartialEq, Eq, PartialOrd, Ord, Debug)]
@@ -101,30 +101,27 @@ pub struct Finding {
     pub found: u64,
 }
 
-impl From<Option<Shortfall>> for Finding {
-    ghost from_gives = { λ shortfall result. result ≡ finding_in shortfall };
+impl From<Shortfall> for Finding {
+    ghost from_gives = { λ shortfall result. result ≡ by_number shortfall };
 
-    fn from(shortfall: Option<Shortfall>) -> Finding {
-        match shortfall {
-            Some(
-                Shortfall {
-                    way,
-                    which,
-                    asked,
-                    found,
-                },
-            ) => Finding {
-                way: way.number(),
-                which,
-                asked,
-                found,
-            },
-            None => Finding {
-                way: 0,
-                which: 0,
-                asked: 0,
-                found: 0,
-            },
+    fn from(shortfall: Shortfall) -> Finding {
+        Finding {
+            way: shortfall.way.number(),
+            which: shortfall.which,
+            asked: shortfall.asked,
+            found: shortfall.found,
         }
+    }
+}
+
+// Nothing to tell.
+pub(crate) fn nothing() -> Finding
+    ensures { result ≡ nothing }
+{
+    Finding {
+        way: 0,
+        which: 0,
+        asked: 0,
+        found: 0,
     }
 }

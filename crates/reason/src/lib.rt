@@ -94,5 +94,8 @@ pub fn explain(
 ) -> Reason
     ensures { result ≡ reason_of (why own (given candidates.now count) lent.now position) }
 {
-    ask(own, candidates, count, lent, position).into()
+    match ask(own, candidates, count, lent, position) {
+        Ok(standing) => standing.into(),
+        Err(refused) => refused.into(),
+    }
 }

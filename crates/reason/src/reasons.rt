@@ -1,9 +1,9 @@
 // What is told of a candidate: that it is the parent, or why it is not.
 ghost use Rattle.std.specs.Prelude.{◌≡◌};
 ghost use Rattle.model.specs.Choice.{current_of};
-ghost use Rattle.reason.specs.Why.{reason_of, beside_choice, by_verdict};
+ghost use Rattle.reason.specs.Why.{reason_of, refused, beside_choice, by_verdict};
 ghost use Rattle.reason.specs.declared.reasons.Refused.TheVariants.{Call};
-ghost use Rattle.reason.specs.Standing.{kind_of, refused_by, standing_of, why_of};
+ghost use Rattle.reason.specs.Standing.{kind_of, refused_by, standing_of};
 
 use choice::{Difference, Refusal};
 use model::{Choice, Offer, Own, Verdict};
@@ -31,7 +31,7 @@ impl From<Refusal> for Refused {
     ghost from_gives = { λ refusal result. result ≡ Call refusal };
 
     fn from(refusal: Refusal) -> Refused {
-        Refused::Call(refusal)
+        Self::Call(refusal)
     }
 }
 
@@ -90,11 +90,12 @@ impl From<Standing> for Reason {
     fn from(standing: Standing) -> Reason {
         match standing {
             Standing::Chosen => blank(Kind::Chosen),
-            Standing::Barred { number, place } => Reason {
-                number,
-                place,
-                ..blank(Kind::Barred)
-            },
+            Standing::Barred { number, place } => {
+                let mut reason = blank(Kind::Barred);
+                reason.number = number;
+                reason.place = place;
+                reason
+            }
             Standing::Beaten { parent, difference } => Reason {
                 parent,
                 criterion: difference.criterion.number(),
@@ -106,16 +107,13 @@ impl From<Standing> for Reason {
     }
 }
 
-impl From<Result<Standing, Refused>> for Reason {
-    ghost from_gives = { λ answer result. result ≡ reason_of (why_of answer) };
+impl From<Refused> for Reason {
+    ghost from_gives = { λ refusal result. result ≡ reason_of (refused (refused_by refusal)) };
 
-    fn from(answer: Result<Standing, Refused>) -> Reason {
-        match answer {
-            Ok(standing) => standing.into(),
-            Err(refused) => Reason {
-                refusal: refused.number(),
-                ..blank(Kind::Refused)
-            },
+    fn from(refused: Refused) -> Reason {
+        Reason {
+            refusal: refused.number(),
+            ..blank(Kind::Refused)
         }
     }
 }
