@@ -11,8 +11,8 @@ use Rattle.model.specs.declared.Offer.{Offer}
 use Rattle.model.specs.declared.Own.{Own}
 use Rattle.model.specs.declared.Neighbour.{Neighbour}
 use Rattle.model.specs.declared.Candidate.{Candidate}
-use Rattle.model.specs.declared.Verdict.TheVariants.{Unbarred}
-use Rattle.model.specs.declared.Choice.TheVariants.{Parent}
+use Rattle.model.specs.Verdict.{Unbarred}
+use Rattle.model.specs.Choice.{Parent}
 use Rattle.model.specs.Object.{Object}
 use Rattle.model.specs.Reading.{well_formed}
 use Rattle.model.specs.Run.{read_run}

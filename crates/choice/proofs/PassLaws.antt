@@ -11,11 +11,11 @@ use lib.Bits.{bit_or, or_shifted_r}
 use Rattle.model.specs.declared.Own.{Own}
 use Rattle.model.specs.declared.Candidate.{Candidate}
 use Rattle.model.specs.declared.Offer.{Offer}
-use Rattle.model.specs.declared.Verdict.{Verdict}
-use Rattle.model.specs.declared.Verdict.TheVariants.{Unbarred, Barred}
-use Rattle.model.specs.declared.Choice.{Choice}
+use Rattle.model.specs.Verdict.{Verdict}
+use Rattle.model.specs.Verdict.{Unbarred, Barred}
+use Rattle.model.specs.Choice.{Choice}
+use Rattle.model.specs.Choice.{Nobody}
 use Rattle.model.specs.declared.Answer.{Answer}
-use Rattle.model.specs.declared.Choice.TheVariants.{Nobody}
 use Rattle.model.specs.Reading.{no_place}
 use Rattle.model.specs.Verdict.{verdict, number_of, place_of}
 use Rattle.model.specs.Choice.{current_of, after_verdict, choose_from, unbarred_bit, bits_of, sixteen, verdicts, choice_of}

@@ -10,8 +10,8 @@ use Rattle.model.specs.declared.Offer.{Offer}
 use Rattle.model.specs.declared.Own as OwnType
 use Rattle.model.specs.declared.Rank.{Rank}
 use Rattle.model.specs.declared.Candidate.{Candidate}
-use Rattle.model.specs.declared.Choice.{Choice}
-use Rattle.model.specs.declared.Choice.TheVariants.{Nobody, Parent}
+use Rattle.model.specs.Choice.{Choice}
+use Rattle.model.specs.Choice.{Nobody, Parent}
 use Rattle.model.specs.declared.Answer.{Answer}
 use Rattle.model.specs.Choice.{refusal, Outgoing, no_parent, parent_of, rank_of, output_of, outgoing, Result, choice_of, unless_refused, call}
 use Rattle.model.proofs.Refusals.{refusal_is}

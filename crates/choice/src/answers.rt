@@ -7,6 +7,9 @@ ghost use Rattle.choice.specs.Refusal.{number_of};
 use crate::refusals::Refusal;
 use model::{Answer, Rank};
 
+// The place of a candidate that no object bars.
+pub(crate) const NO_PLACE: u16 = 65535;
+
 // The bit of the candidate at a position, in its place.
 pub(crate) fn bit_at(position: usize) -> u16
     requires { position < 16 }
@@ -31,7 +34,7 @@ pub(crate) fn blank() -> Answer
         parent: 255,
         rank: Rank(65535),
         verdicts: [0; 16],
-        places: [65535; 16],
+        places: [NO_PLACE; 16],
         bits: 0,
         count: 0,
         leaf: 0,

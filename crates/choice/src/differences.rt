@@ -4,7 +4,7 @@ ghost use Rattle.model.specs.Choice.{current_of};
 ghost use Rattle.choice.specs.Difference.{number_of, told, told_of, ahead_difference, difference_of};
 
 use crate::preference;
-use model::{Offer, Own};
+use model::{Own, Parent};
 
 // What unbarred candidates are compared by, in this order; edition 1 compares by the last three alone.
 #[derive(Clone, Copy, PartialEq, Eq, PartialOrd, Ord, Debug)]
@@ -61,32 +61,26 @@ fn ahead_difference(value: u8, against: u8) -> Difference
 
 // The first criterion on which a candidate differs from another. It names no winner: `better` alone does.
 #[tactic(auto, using(crate::proofs::DifferenceLaws::differs))]
-pub fn first_difference(
-    own: Own,
-    position: u8,
-    offer: Offer,
-    other: u8,
-    than: Offer,
-) -> Option<Difference>
-    ensures { told_of result ≡ difference_of (current_of own) position offer other than }
+pub fn first_difference(own: Own, one: Parent, other: Parent) -> Option<Difference>
+    ensures { told_of result ≡ difference_of (current_of own) one.position one.offer other.position other.offer }
 {
-    if offer.ahead != than.ahead {
-        return Some(ahead_difference(offer.ahead, than.ahead));
+    if one.offer.ahead != other.offer.ahead {
+        return Some(ahead_difference(one.offer.ahead, other.offer.ahead));
     }
-    if offer.rank != than.rank {
+    if one.offer.rank != other.offer.rank {
         return Some(Difference {
             criterion: Criterion::Rank,
-            value: offer.rank.0,
-            against: than.rank.0,
+            value: one.offer.rank.0,
+            against: other.offer.rank.0,
         });
     }
-    let current = preference::is_current(own, position);
-    let other_current = preference::is_current(own, other);
+    let current = preference::is_current(own, one.position);
+    let other_current = preference::is_current(own, other.position);
     if current != other_current {
         return Some(on(Criterion::Current, current as u8, other_current as u8));
     }
-    if position != other {
-        return Some(on(Criterion::Position, position, other));
+    if one.position != other.position {
+        return Some(on(Criterion::Position, one.position, other.position));
     }
     None
 }

@@ -6,7 +6,7 @@ ghost use Rattle.model.specs.Choice.{call};
 ghost use Rattle.choice.specs.Given.{given};
 ghost use Rattle.choice.specs.Demand3.{Returned};
 
-use model::{Answer, Candidate, Choice, Own, Verdict};
+use model::{Answer, Candidate, Own, Parent, Verdict};
 
 mod answers;
 mod differences;
@@ -33,27 +33,31 @@ pub fn call(
         return answers::refused(refusal);
     }
     let mut answer = answers::blank();
-    let mut best = Choice::Nobody;
+    let mut best = None;
     for (i, candidate) in candidates[..count].iter().enumerate() {
-        match verdict::judge(own, *candidate, lent) {
-            Verdict::Barred { number, place } => {
-                answer.verdicts[i] = number;
-                answer.places[i] = place;
+        match verdict::judge(&own, candidate, lent) {
+            Verdict::Barred(bar) => {
+                answer.verdicts[i] = bar.number();
+                answer.places[i] = bar.place().unwrap_or(answers::NO_PLACE);
             }
             Verdict::Unbarred(offer) => {
                 answer.verdicts[i] = 10;
                 answer.bits |= answers::bit_at(i);
-                best = preference::better(own, best, i as u8, offer);
+                let unbarred = Parent {
+                    position: i as u8,
+                    offer,
+                };
+                best = Some(preference::better(own, best, unbarred));
             }
         }
     }
     answer.count = answers::count_of(answer.bits);
-    if let Choice::Parent { position, offer } = best {
-        let parent = candidates[position as usize];
-        let end = parent.start + parent.size;
-        let sent = hop::send(own, parent.neighbour, &lent[parent.start..end], out);
-        answer.parent = position;
-        answer.rank = offer.rank;
+    if let Some(parent) = best {
+        let chosen = candidates[parent.position as usize];
+        let end = chosen.start + chosen.size;
+        let sent = hop::send(own, chosen.neighbour, &lent[chosen.start..end], out);
+        answer.parent = parent.position;
+        answer.rank = parent.offer.rank;
         answer.leaf = sent.leaf;
         answer.size = sent.size;
     }

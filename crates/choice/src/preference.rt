@@ -1,9 +1,9 @@
 // The choice of a preferred parent.
-ghost use Rattle.std.specs.Prelude.{◌≡◌, cond};
-ghost use Rattle.model.specs.declared.Verdict.TheVariants.{Unbarred};
-ghost use Rattle.model.specs.Choice.{current_of, not_current, criteria, precedes, after_verdict};
+ghost use Rattle.std.specs.Prelude.{◌≡◌, cond, Some};
+ghost use Rattle.model.specs.Verdict.{Unbarred};
+ghost use Rattle.model.specs.Choice.{current_of, not_current, criteria, precedes, choice_in, after_verdict};
 
-use model::{Choice, Offer, Own};
+use model::{Own, Parent};
 
 // Whether a position is that of the current parent.
 pub(crate) fn is_current(own: Own, position: u8) -> bool
@@ -14,26 +14,25 @@ pub(crate) fn is_current(own: Own, position: u8) -> bool
 
 // Whether an unbarred candidate comes before another: by what comes before the rank, then by the lower rank, then as the current parent,
 // then by the lower position.
-fn comes_before(own: Own, position: u8, offer: Offer, other: u8, than: Offer) -> bool
-    ensures { result ≡ precedes (criteria (current_of own) position offer) (criteria (current_of own) other than) }
+fn comes_before(own: Own, one: Parent, other: Parent) -> bool
+    ensures { result ≡ precedes (criteria (current_of own) one.position one.offer) (criteria (current_of own) other.position other.offer) }
 {
-    (offer, !is_current(own, position), position) < (than, !is_current(own, other), other)
+    let a = (one.offer, !is_current(own, one.position), one.position);
+    let b = (other.offer, !is_current(own, other.position), other.position);
+    a < b
 }
 
 // The best candidate so far, with one more that is unbarred.
-pub fn better(own: Own, best: Choice, position: u8, offer: Offer) -> Choice
-    ensures { result ≡ after_verdict (current_of own) best position (Unbarred offer) }
+pub fn better(own: Own, best: Option<Parent>, candidate: Parent) -> Parent
+    ensures { choice_in (Some result) ≡ after_verdict (current_of own) (choice_in best) candidate.position (Unbarred candidate.offer) }
 {
     match best {
-        Choice::Nobody => Choice::Parent { position, offer },
-        Choice::Parent {
-            position: other,
-            offer: than,
-        } => {
-            if comes_before(own, position, offer, other, than) {
-                return Choice::Parent { position, offer };
+        Some(parent) => {
+            if comes_before(own, candidate, parent) {
+                return candidate;
             }
-            best
+            parent
         }
+        None => candidate,
     }
 }

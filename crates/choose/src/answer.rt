@@ -7,13 +7,12 @@ use std::io;
 // Calls, and writes the answer and the reasons that are asked for.
 pub(crate) fn write(out: &mut Output, calls: u64, told: &Call) -> io::Result<()> {
     let mut sent = [0u8; own::MOST_ROOM];
-    let room = told.own.room.min(own::MOST_ROOM);
     let answer = choice::call(
         told.own.own,
         &told.list(),
         told.candidates.len(),
         told.lent.bytes(),
-        &mut sent[..room],
+        &mut sent[..told.own.room],
     );
     report::call(out, calls, &answer, told.candidates.len(), &sent)?;
     if let Some(position) = told.own.why {

@@ -44,7 +44,7 @@ impl Call {
         if let Some(setting) = self.missing() {
             return Err(Fault::Missing(setting));
         }
-        let candidate = CandidateSettings::behind(self.lent.len());
+        let candidate = CandidateSettings::behind(self.lent.bytes().len());
         self.candidates
             .try_push(candidate)
             .map_err(|_| Fault::TooManyCandidates)

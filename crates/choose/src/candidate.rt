@@ -6,7 +6,7 @@ use crate::setting::{Given, Setting};
 use feed::Fed;
 use model::{Candidate, Neighbour, Rank};
 
-// The flags of `Neighbour`.
+// The flags of `Neighbour`, whose layout C has.
 const OVERLOADED: u8 = 0x01;
 
 const AGGREGATOR: u8 = 0x02;
@@ -86,7 +86,7 @@ impl CandidateSettings {
                 missing: 0,
                 count: 0,
             },
-            given: Given::nothing(),
+            given: Given::default(),
         }
     }
 
@@ -113,14 +113,14 @@ impl CandidateSettings {
         line: &mut Rest<'_>,
         lent: &mut Lent,
     ) -> Result<(), Fault> {
-        if !self.given.add(setting) {
+        if !self.given.insert(setting) {
             return Err(Fault::Twice(setting));
         }
         match setting {
             Setting::Container => {
                 self.tell_run(ToldBy::Bytes)?;
                 lent.extend(setting, line.hex())?;
-                self.candidate.size = lent.len().saturating_sub(self.candidate.start);
+                self.candidate.size = lent.bytes().len().saturating_sub(self.candidate.start);
                 line.end();
             }
             Setting::Part => {
@@ -142,7 +142,7 @@ impl CandidateSettings {
         Ok(())
     }
 
-    // Tells its run in a way, which is to be the same each time.
+    // Notes in which way its run is told: in one alone.
     fn tell_run(&mut self, by: ToldBy) -> Result<(), Fault> {
         match self.run.replace(by) {
             Some(before) if before != by => {

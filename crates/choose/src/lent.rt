@@ -1,60 +1,45 @@
 // The lent run of a call: the bytes of all its containers.
-ghost use Rattle.std.specs.Prelude.{◌≤◌};
-
 use crate::fault::Fault;
 use crate::line::HexBytes;
 use crate::setting::Setting;
+use arrayvec::ArrayVec;
 use feed::Fed;
 
 const ROOM: usize = 65536;
 
-// What is kept of a run that comes in parts lies behind the bytes that are used while it is fed, so that no `ArrayVec` serves.
 #[derive(Drop)]
 pub struct Lent {
-    room: [u8; ROOM],
-    used: usize,
-    ghost inside: { used ≤ 65536 },
+    run: ArrayVec<u8, ROOM>,
+    // what is kept of a candidate's run that comes in parts
+    kept: [u8; feed::KEPT_ROOM],
 }
 
 impl Lent {
     pub(crate) fn new() -> Lent {
         Lent {
-            room: [0; ROOM],
-            used: 0,
+            run: ArrayVec::new(),
+            kept: [0; feed::KEPT_ROOM],
         }
     }
 
     pub(crate) fn clear(&mut self) {
-        self.used = 0;
-    }
-
-    pub(crate) fn len(&self) -> usize {
-        self.used
+        self.run.clear();
     }
 
     pub(crate) fn bytes(&self) -> &[u8] {
-        &self.room[..self.used]
+        self.run.as_slice()
     }
 
-    // Puts a byte behind the others.
-    fn push(&mut self, byte: u8) -> Result<(), Fault> {
-        if self.used == ROOM {
-            return Err(Fault::TooManyBytes);
-        }
-        self.room[self.used] = byte;
-        self.used += 1;
-        Ok(())
-    }
-
-    // Puts the bytes behind a setting behind the others.
+    // Puts the bytes that stand behind a setting at the end.
     pub(crate) fn extend(&mut self, setting: Setting, bytes: HexBytes<'_>) -> Result<(), Fault> {
         for byte in bytes {
-            self.push(byte.map_err(|_| Fault::BadHex(setting))?)?;
+            let byte = byte.map_err(|_| Fault::BadHex(setting))?;
+            self.run.try_push(byte).map_err(|_| Fault::TooManyBytes)?;
         }
         Ok(())
     }
 
-    // Feeds the bytes of a part, one by one. What is kept of its run begins at an index, where it has room for any run.
+    // Feeds the bytes of a part, one by one, and puts what is kept of its run at an index, where any run has room.
     pub(crate) fn feed(
         &mut self,
         start: usize,
@@ -67,9 +52,13 @@ impl Lent {
         let mut fed = before;
         for byte in part {
             let byte = byte.map_err(|_| Fault::BadHex(Setting::Part))?;
-            fed = feed::feed(fed, &[byte], &mut self.room[start..]);
+            fed = feed::feed(fed, &[byte], &mut self.kept);
         }
-        self.used = start + (fed.size as usize).min(feed::KEPT_ROOM);
+        let size = (fed.size as usize).min(feed::KEPT_ROOM);
+        self.run.truncate(start);
+        self.run
+            .try_extend_from_slice(&self.kept[..size])
+            .map_err(|_| Fault::TooManyBytes)?;
         Ok(fed)
     }
 }

@@ -1,11 +1,11 @@
 // What is left of a line: words, numbers and bytes.
-ghost use Rattle.std.specs.Prelude.{length};
+ghost use Rattle.std.specs.Prelude.{◌≤◌, length, IfOk};
 ghost use Rattle.std.specs.Iterator.{at_most};
 
 use crate::fault::Fault;
 use crate::setting::Setting;
 use std::num::TryFromIntError;
-use words::{Decimal, HexByte};
+use words::NotDecimal;
 
 // A field's type, with its largest number.
 pub trait Field: TryFrom<u64, Error = TryFromIntError> {
@@ -49,17 +49,19 @@ impl<'a> Rest<'a> {
         Some(word)
     }
 
-    // The number behind a setting, which is at most so large. Behind another word the line stays as it is: that word is still to come.
-    pub(crate) fn up_to(&mut self, setting: Setting, most: u64) -> Result<u64, Fault> {
+    // The number behind a setting, which is at most so large. Any other word is left on the line, since it can begin a call.
+    pub(crate) fn up_to(&mut self, setting: Setting, most: u64) -> Result<u64, Fault>
+        ensures { IfOk result (λ n. n ≤ most) }
+    {
         let mut behind = *self;
         let word = behind.word().ok_or(Fault::NoNumber(setting))?;
         match words::number(word) {
-            Decimal::Value(n) if n <= most => {
+            Ok(n) if n <= most => {
                 *self = behind;
                 Ok(n)
             }
-            Decimal::Value(_) | Decimal::TooLarge => Err(Fault::TooLarge(setting, most)),
-            Decimal::NotANumber => Err(Fault::NoNumber(setting)),
+            Ok(_) | Err(NotDecimal::TooLarge) => Err(Fault::TooLarge(setting, most)),
+            Err(NotDecimal::NotANumber) => Err(Fault::NoNumber(setting)),
         }
     }
 
@@ -104,15 +106,8 @@ impl Iterator for HexBytes<'_> {
             }
             [high, low, behind @ ..] => {
                 self.text = behind;
-                Some(byte(*high, *low))
+                Some(words::byte(*high, *low).ok_or(NotHex))
             }
         }
-    }
-}
-
-fn byte(high: u8, low: u8) -> Result<u8, NotHex> {
-    match words::byte(high, low) {
-        HexByte::Byte(byte) => Ok(byte),
-        HexByte::NotHex => Err(NotHex),
     }
 }

@@ -1,11 +1,13 @@
 // What is told of the node itself, and of the call.
+ghost use Rattle.std.specs.Prelude.{◌≤◌};
+
 use crate::fault::Fault;
 use crate::lent::Lent;
 use crate::line::Rest;
 use crate::setting::{Given, Setting};
 use model::{Own, Rank};
 
-// The flags of `Own`.
+// The flags of `Own`, whose layout C has.
 const OVERLOADED: u8 = 0x01;
 
 const AGGREGATOR: u8 = 0x02;
@@ -34,6 +36,7 @@ pub struct OwnSettings {
     // whether `reasons` asks about each candidate
     pub reasons: bool,
     given: Given,
+    ghost room_fits: { room ≤ 4096 },
 }
 
 impl OwnSettings {
@@ -53,7 +56,7 @@ impl OwnSettings {
             room: USUAL_ROOM,
             why: None,
             reasons: false,
-            given: Given::nothing(),
+            given: Given::default(),
         }
     }
 
@@ -69,29 +72,10 @@ impl OwnSettings {
         line: &mut Rest<'_>,
         lent: &mut Lent,
     ) -> Result<(), Fault> {
-        if !self.given.add(setting) {
+        if !self.given.insert(setting) {
             return Err(Fault::Twice(setting));
         }
-        let own = &mut self.own;
         match setting {
-            Setting::Minhop => own.minhop = line.number(setting)?,
-            Setting::Maxincrease => own.maxincrease = line.number(setting)?,
-            Setting::Type => own.nodetype = line.number(setting)?,
-            Setting::Edition => own.edition = line.number(setting)?,
-            Setting::Lowest => {
-                own.lowest = Rank(line.number(setting)?);
-                own.flags |= LOWEST;
-            }
-            Setting::Energy => {
-                own.energy = line.number(setting)?;
-                own.flags |= ENERGY;
-            }
-            Setting::Current => {
-                own.current = line.number(setting)?;
-                own.flags |= CURRENT;
-            }
-            Setting::Aggregator => own.flags |= AGGREGATOR,
-            Setting::Overloaded => own.flags |= OVERLOADED,
             Setting::Room => self.room = line.up_to(setting, MOST_ROOM as u64)? as usize,
             Setting::Why => self.why = Some(line.number(setting)?),
             Setting::Reasons => self.reasons = true,
@@ -99,8 +83,34 @@ impl OwnSettings {
                 lent.extend(setting, line.hex())?;
                 line.end();
             }
-            _ => return Err(Fault::OfCandidate(setting)),
+            _ => take(&mut self.own, setting, line)?,
         }
         Ok(())
     }
+}
+
+// Takes a setting of the node itself.
+fn take(own: &mut Own, setting: Setting, line: &mut Rest<'_>) -> Result<(), Fault> {
+    match setting {
+        Setting::Minhop => own.minhop = line.number(setting)?,
+        Setting::Maxincrease => own.maxincrease = line.number(setting)?,
+        Setting::Type => own.nodetype = line.number(setting)?,
+        Setting::Edition => own.edition = line.number(setting)?,
+        Setting::Lowest => {
+            own.lowest = Rank(line.number(setting)?);
+            own.flags |= LOWEST;
+        }
+        Setting::Energy => {
+            own.energy = line.number(setting)?;
+            own.flags |= ENERGY;
+        }
+        Setting::Current => {
+            own.current = line.number(setting)?;
+            own.flags |= CURRENT;
+        }
+        Setting::Aggregator => own.flags |= AGGREGATOR,
+        Setting::Overloaded => own.flags |= OVERLOADED,
+        _ => return Err(Fault::OfCandidate(setting)),
+    }
+    Ok(())
 }

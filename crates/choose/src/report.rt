@@ -12,13 +12,18 @@ pub(crate) fn meaning(out: &mut Output, number: u8) -> io::Result<()> {
     out.write_all(&words[..n])
 }
 
+// The index of an object, unless its place says that there is none.
+pub(crate) fn object_at(place: u16) -> Option<u16> {
+    (place != 65535).then_some(place)
+}
+
 // Writes a line for each candidate.
 fn verdicts(out: &mut Output, answer: &Answer, count: usize) -> io::Result<()> {
     let verdicts = answer.verdicts.iter().zip(&answer.places);
     for (position, (number, place)) in verdicts.take(count).enumerate() {
         write!(out, "candidate {position} verdict {number}")?;
-        if *place != 65535 {
-            write!(out, " object {place}")?;
+        if let Some(index) = object_at(*place) {
+            write!(out, " object {index}")?;
         }
         meaning(out, *number)?;
         writeln!(out)?;

@@ -11,7 +11,7 @@ use std::io::Write;
 // The bytes of a line at most, its end not among them.
 const LONGEST: usize = 8192;
 
-// Where the next word stands: before the first call, in a call, or behind an error, where all words are skipped up to the next call.
+// Where the next word stands: before the first call, in a call, or behind an error, up to the next call.
 #[derive(Clone, Copy, PartialEq, Eq)]
 enum Place {
     BeforeCalls,

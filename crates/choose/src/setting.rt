@@ -34,7 +34,7 @@ pub enum Setting {
     Reasons,
 }
 
-// All of them, to look a word up.
+// All of them, among which a word is looked up.
 static SETTINGS: [Setting; 29] = [
     Setting::Minhop,
     Setting::Maxincrease,
@@ -107,7 +107,7 @@ impl Setting {
         }
     }
 
-    // Whether it can be given again in its place: each time it adds bytes.
+    // Whether it can be given more than once in its place: each time it adds bytes.
     fn is_repeatable(self) -> bool {
         matches!(self, Setting::Lent | Setting::Part)
     }
@@ -131,22 +131,18 @@ impl fmt::Display for Setting {
     }
 }
 
-// The settings that were given in a place, a bit for each.
-#[derive(Clone, Copy)]
+// The settings that were given in a place, as a set: a bit for each.
+#[derive(Clone, Copy, Default)]
 pub struct Given(u32);
 
 impl Given {
-    pub(crate) fn nothing() -> Given {
-        Given(0)
-    }
-
-    pub(crate) fn has(self, setting: Setting) -> bool {
+    fn contains(self, setting: Setting) -> bool {
         self.0 & (1 << (setting as u32)) != 0
     }
 
     // Adds a setting; false where it was given before and can be given but once.
-    pub(crate) fn add(&mut self, setting: Setting) -> bool {
-        if self.has(setting) && !setting.is_repeatable() {
+    pub(crate) fn insert(&mut self, setting: Setting) -> bool {
+        if self.contains(setting) && !setting.is_repeatable() {
             return false;
         }
         self.0 |= 1 << (setting as u32);
@@ -155,6 +151,9 @@ impl Given {
 
     // The first of some settings that was not given.
     pub(crate) fn first_missing(self, needed: &[Setting]) -> Option<Setting> {
-        needed.iter().copied().find(|setting| !self.has(*setting))
+        needed
+            .iter()
+            .copied()
+            .find(|setting| !self.contains(*setting))
     }
 }

@@ -2,19 +2,19 @@
 use mathlib.Core.Path.{◌≡◌, refl, sym, ap, ◌∙◌}
 use Prim.Native.Nat.{ℕ, zero, suc, ◌+◌, ◌-◌, ◌≤◌, ◌<◌}
 use mathlib.Core.Bool.{Bool, true, false, cond}
-use mathlib.Core.List.{List, [], ◌∷◌, ◌++◌, map, append_assoc, append-nil}
-use mathlib.Core.Option.{Option, none, some}
+use mathlib.Core.List.{List, [], ◌∷◌, ◌++◌, append_assoc, append-nil}
+use mathlib.Core.Option.{none, some}
 use native.Mathlib.Omega.{arith}
 use lib.ListN.{length, take, length-append}
 use lib.Seq.{take-append_seam}
-use lib.Dec.{leb, ltb, eqb}
-use borrow.Author.Tests.{lt-leb, lt-ltb, le-ltb, ltb-true, ltb-false, eqb-true, eqb-false}
+use lib.Dec.{ltb, eqb}
+use borrow.Author.Tests.{lt-leb, lt-ltb, ltb-true, ltb-false, eqb-false}
 use Rattle.model.specs.Reading.{no_place, refused, read_objects}
 use Rattle.model.specs.Cut.{keep_if}
-use Rattle.model.specs.Run.{RplOption, pad1, option, option_bytes, join_options, options, options_up_to, is_container, containers, objects_of, read_run}
-use Rattle.feed.specs.Feeding.{Keep, dropped, emptied, whole, Phase, between, typed, within, Feeding, fed, keep_of, closed, goes_on, kept_with, begins, feed_at, feed_byte, feed, unfed}
+use Rattle.model.specs.Run.{RplOption, pad1, option, option_bytes, join_options, options, options_up_to, containers, objects_of, read_run}
+use Rattle.feed.specs.Feeding.{Keep, dropped, emptied, whole, Phase, between, typed, within, Feeding, keep_of, closed, goes_on, kept_with, begins, feed_at, feed_byte, feed, unfed}
 use Rattle.model.proofs.RunLaws.{options_step, options-append, options_join}
-use Rattle.model.proofs.Runs.{read_as_options, read_by, containers-append}
+use Rattle.model.proofs.Runs.{read_as_options, read_by}
 
 -- feeding parts is feeding them joined
 pub feed-append : (s : Feeding) (a b : List ℕ) → feed s (a ++ b) ≡ feed (feed s a) b

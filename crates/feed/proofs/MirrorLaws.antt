@@ -1,17 +1,20 @@
 -- The numbers and the buffer mirror what was fed, and there is room for every byte that is kept.
 use mathlib.Core.Path.{◌≡◌, refl, sym, ap, subst, ◌∙◌}
-use Prim.Native.Nat.{ℕ, zero, suc, ◌+◌, ◌-◌, ◌*◌, ◌≤◌, ◌<◌}
+use Prim.Native.Nat.{ℕ, zero, suc, ◌+◌, ◌-◌, ◌*◌, ◌≤◌}
 use native.Mathlib.Omega.{arith}
 use mathlib.Core.Bool.{Bool, true, false, cond}
 use mathlib.Core.List.{List, [], ◌∷◌, ◌++◌}
 use mathlib.Core.Logic.{◌⊎◌, inl, inr}
-use lib.ListN.{length, take, set, length-append, length-take}
+use Rattle.std.proofs.lemmas.Bool.Decides.{nat_tests}
+use Rattle.std.proofs.lemmas.List.{length_push}
+use Rattle.std.proofs.Math.Nat.{add-sub_cancel}
+use lib.ListN.{length, take, length-take}
 use lib.Seq.{take-suc-set, take-take}
 use lib.Dec.{ltb, eqb}
-use borrow.Author.Tests.{lt-ltb, le-ltb, eq-eqb, ne_eqb, ltb-true, ltb-false, eqb-true, eqb-false}
+use borrow.Author.Tests.{lt-ltb, le-ltb, eq-eqb, ne_eqb, ltb-true, eqb-true}
 use Rattle.feed.specs.declared.bytes.Fed.{Fed}
 use Rattle.feed.proofs.StepLaws.{stored-length}
-use Rattle.feed.specs.Feeding.{Keep, dropped, emptied, whole, Phase, between, typed, within, Feeding, fed, keep_of, closed as closed_as, goes_on as goes_on_as, kept_with, begins, feed_at, feed_byte, unfed}
+use Rattle.feed.specs.Feeding.{Keep, dropped, emptied, whole, Phase, between, typed, within, Feeding, keep_of, closed as closed_as, goes_on as goes_on_as, kept_with, begins, feed_at, feed_byte, unfed}
 use Rattle.feed.specs.Step.{state, keep_number, more, stored, one_more, closed, closed_in, goes_on, goes_on_in, gone, gone_in, begun, begun_in, stepped, stepped_in}
 
 -- ---- room
@@ -58,16 +61,7 @@ Phased s (typed k) = (s.phase ≡ 1) × (s.keep ≡ keep_no k)
 Phased s (within k m) = (s.phase ≡ 2) × (s.keep ≡ keep_no k) × (s.missing ≡ m)
 
 keep_is : (t n : ℕ) → keep_number (suc t) n ≡ keep_no (keep_of t n)
-keep_is t n = go (eqb t 1) refl
-  where
-    inner : (b c : Bool) → cond b 2 (cond c 1 0) ≡ keep_no (cond b whole (cond c emptied dropped))
-    inner true c = refl
-    inner false true = refl
-    inner false false = refl
-
-    go : (b : Bool) → eqb t 1 ≡ b → keep_number (suc t) n ≡ keep_no (cond b (cond (ltb n 8) whole (cond (eqb n 8) emptied dropped)) dropped)
-    go true e = rw (eq-eqb (suc t) 2 (ap suc (eqb-true t 1 e))) (inner (ltb n 8) (eqb n 8))
-    go false e = rw (ne_eqb (suc t) 2 (λ z. eqb-false t 1 e (omega arith)))
+keep_is t n = grind (arith, nat_tests)
 
 -- ---- the mirror
 
@@ -79,12 +73,6 @@ pub record Mirrors (s : Fed) (l : List ℕ) (f : Feeding) : Type 0 where
   pub room : Room f.phase f.count (length f.kept)
 
 -- what is kept, with one byte more
-add_one_sub : (n : ℕ) → n + 1 - 1 ≡ n
-add_one_sub n = omega arith
-
-snoc_length : (k : List ℕ) (b : ℕ) → length (k ++ (b ∷ [])) ≡ length k + 1
-snoc_length k b = length-append k (b ∷ [])
-
 module _ (s : Fed) (l k : List ℕ) (long : 2059 ≤ length l) (z : s.size ≡ length k) (e : take s.size l ≡ k) (h : length k ≤ 2058) where
   more_is : more s ≡ state (s.size + 1) s.phase s.keep s.missing s.count
   unfolding more
@@ -105,7 +93,7 @@ Gone emptied m n z = (n ≡ 8) × (z ≤ 2057)
 Gone whole m n z = (n ≤ 7) × (z + m ≤ 257 * n + 257)
 
 count_more : (n : ℕ) → n ≤ 8 → one_more n ≡ suc n
-count_more n h = rw (lt-ltb n 9 (omega arith)) (omega arith)
+count_more n h = grind (arith, nat_tests)
 
 module _ (l : List ℕ) (long : 2059 ≤ length l) where
   -- an option that is complete
@@ -121,11 +109,11 @@ module _ (l : List ℕ) (long : 2059 ≤ length l) where
       let i : one_more s.count ≡ suc n = ap one_more c ∙ count_more n (omega arith) in
       rw (ne_eqb s.keep 0 (λ x. omega arith), eq-eqb s.keep 1 q)
       (record {
-        size = m ∙ rw (snoc_length k 0) (omega arith);
+        size = m ∙ rw (length_push k 0) (omega arith);
         kept = rw m (stored_is s l k long z e (omega arith) 0);
         count = i;
         phase = refl;
-        room = rw (snoc_length k 0) (inr (omega arith, omega arith));
+        room = rw (length_push k 0) (inr (omega arith, omega arith));
       })
   closes whole n k s z e c q (a, b) =
       let i : one_more s.count ≡ suc n = ap one_more c ∙ count_more n (omega arith) in
@@ -151,7 +139,7 @@ module _ (l : List ℕ) (long : 2059 ≤ length l) where
   takes whole m n b k s z e c q (a, h) =
       let r = more_is s l k long z e (omega arith) in
       let long' : 2059 ≤ length (stored s b l) = rw (stored-length s b l) long in
-      let w = goes (stored s b l) long' whole m n (k ++ (b ∷ [])) (more s) (rw (r, snoc_length k b) (omega arith)) (rw r (stored_is s l k long z e (omega arith) b)) (rw r c) (rw r q) (a, rw (snoc_length k b) (omega arith)) in
+      let w = goes (stored s b l) long' whole m n (k ++ (b ∷ [])) (more s) (rw (r, length_push k b) (omega arith)) (rw r (stored_is s l k long z e (omega arith) b)) (rw r c) (rw r q) (a, rw (length_push k b) (omega arith)) in
       rw (lt-ltb 1 s.keep (omega arith)) w
 
   -- a byte between options
@@ -163,11 +151,11 @@ module _ (l : List ℕ) (long : 2059 ≤ length l) where
       let m : (more s).size ≡ s.size + 1 = ap (λ x. x.size) r in
       rw (ne_eqb (suc t) 0 (λ x. omega arith))
       (record {
-        size = m ∙ rw (snoc_length k (suc t)) (omega arith);
+        size = m ∙ rw (length_push k (suc t)) (omega arith);
         kept = rw m (stored_is s l k long z e (low_room n (length k) h) (suc t));
         count = c;
         phase = (refl, ap (keep_number (suc t)) c ∙ keep_is t n);
-        room = rw (snoc_length k (suc t)) (roomy (eqb t 1) (ltb n 8) refl (eqb n 8) refl h);
+        room = rw (length_push k (suc t)) (roomy (eqb t 1) (ltb n 8) refl (eqb n 8) refl h);
       })
     where
       roomy : (a b : Bool) → ltb n 8 ≡ b → (c : Bool) → eqb n 8 ≡ c → Low n (length k) → Goes (cond a (cond b whole (cond c emptied dropped)) dropped) 255 n (length k + 1)
@@ -175,8 +163,8 @@ module _ (l : List ℕ) (long : 2059 ≤ length l) where
       roomy true true p c q (inr (x, y)) = absurd (omega (arith, ltb-true n 8 p))
       roomy true false p true q (inl (x, y)) = let d = eqb-true n 8 q in (d, omega arith)
       roomy true false p true q (inr (x, y)) = absurd (omega (arith, eqb-true n 8 q))
-      roomy true false p false q h = (omega arith, rw (add_one_sub (length k)) h)
-      roomy false b p c q h = (omega arith, rw (add_one_sub (length k)) h)
+      roomy true false p false q h = (omega arith, rw (add-sub_cancel (length k) 1) h)
+      roomy false b p c q h = (omega arith, rw (add-sub_cancel (length k) 1) h)
 
 -- one byte more
 pub mirrors_step : (s : Fed) (l : List ℕ) (f : Feeding) (b : ℕ) → 2059 ≤ length l → b ≤ 255 → Mirrors s l f → Mirrors (stepped s b) (stepped_in s b l) (feed_byte f b)

@@ -1,21 +1,20 @@
 -- A run that is fed in parts is the run that came whole.
-use mathlib.Core.Path.{◌≡◌, refl, sym, ap, ◌∙◌}
-use Prim.Native.Nat.{ℕ, zero, suc, ◌-◌, ◌≤◌}
+use mathlib.Core.Path.{◌≡◌, refl, ap, ◌∙◌}
+use Prim.Native.Nat.{ℕ, zero, suc, ◌≤◌}
 use native.Mathlib.Omega.{arith}
 use mathlib.Core.Bool.{Bool, true, false, cond}
-use mathlib.Core.List.{List, [], ◌∷◌, ◌++◌}
+use mathlib.Core.List.{List, [], ◌∷◌}
 use mathlib.Core.Option.{some, some-injective}
-use lib.ListN.{length, take, drop, set, get_elem?}
+use Rattle.std.proofs.lemmas.Bool.Decides.{nat_tests}
+use lib.ListN.{length, get_elem?}
 use lib.Seq.{length-take-le}
-use lib.Dec.{ltb, eqb}
-use borrow.Author.Tests.{lt-ltb, le-ltb, eq-eqb, ne_eqb}
+use borrow.Author.Tests.{lt-ltb, le-ltb}
 use Rattle.model.specs.declared.Own.{Own}
 use Rattle.model.specs.declared.Candidate.{Candidate}
-use Rattle.model.specs.declared.Choice.{Choice}
-use Rattle.model.specs.declared.Choice.TheVariants.{Nobody, Parent}
+use Rattle.model.specs.Choice.{Choice}
+use Rattle.model.specs.Choice.{Nobody, Parent}
 use Rattle.model.specs.declared.Offer.{Offer}
-use Rattle.model.specs.declared.Verdict.{Verdict}
-use Rattle.model.specs.declared.Verdict.TheVariants.{Unbarred, Barred}
+use Rattle.model.specs.Verdict.{Unbarred, Barred}
 use Rattle.model.specs.RoundTrip.{Bytes}
 use Rattle.model.specs.Reading.{no_place}
 use Rattle.model.specs.Run.{read_run, concat}
@@ -26,9 +25,9 @@ use Rattle.model.proofs.ByteLaws.{part_bytes, first_byte}
 use Rattle.model.proofs.VerdictLaws.{admitted}
 use Rattle.model.proofs.ChoiceLaws.{choose_unbarred}
 use Rattle.feed.specs.declared.bytes.Fed.{Fed}
-use Rattle.feed.specs.Feeding.{Feeding, between, Phase, unfed, feed_byte, feed}
-use Rattle.feed.specs.Step.{state, stored, stepped, stepped_in, fed_bytes, fed_bytes_in, fed, fed_in}
-use Rattle.feed.specs.Parts.{Kept, fed_parts, fed_run, kept_of, Keeps, FedReads, Came, as_it_is, in_parts, FedBeside, FedInParts, ToldShort, ShortTold, StaysInRoom}
+use Rattle.feed.specs.Feeding.{Feeding, unfed, feed_byte, feed}
+use Rattle.feed.specs.Step.{state, stepped, stepped_in, fed_bytes, fed_bytes_in, fed, fed_in}
+use Rattle.feed.specs.Parts.{ToldShort, fed_parts, fed_run, FedReads, Came, as_it_is, in_parts, FedBeside, FedInParts, ShortTold, StaysInRoom}
 use Rattle.feed.proofs.StepLaws.{stepped_length, fed_length, fed_behind}
 use Rattle.feed.proofs.FedLaws.{feed-append, fed_reads}
 use Rattle.feed.proofs.MirrorLaws.{Mirrors, room_of, not_short, mirrors_first, mirrors_step}
@@ -125,20 +124,16 @@ fed_in_parts = record {
 
 -- ---- a buffer that is too short
 
--- by both tests
-module _ (s : Fed) (p l : List ℕ) (h : s.phase ≡ 255) where
-  told_by_lem : (a b : Bool) → b ≡ true → ((cond a (state s.size 255 s.keep s.missing s.count) (cond b s (fed_bytes s p))).phase ≡ 255)
-      × ((cond a (state s.size 255 s.keep s.missing s.count) (cond b s (fed_bytes s p))).size ≡ s.size) × (cond a l (cond b l (fed_bytes_in s p l)) ≡ l)
-  told_by_lem true b e = (refl, refl, refl)
-  told_by_lem false true e = (h, refl, refl)
-  told_by_lem false false e = (cc, cc, cc)
+by_phase : (s : Fed) (p l : List ℕ) → s.phase ≡ 255 → ToldShort s p l
+unfolding fed fed_in
+by_phase s p l h = record { told = grind (arith, nat_tests); kept = grind (arith, nat_tests); untouched = grind (arith, nat_tests) }
+
+by_length : (s : Fed) (p l : List ℕ) → suc (length l) ≤ 2059 → ToldShort s p l
+unfolding fed fed_in
+by_length s p l h = let e = lt-ltb (length l) 2059 h in record { told = rw e; kept = rw e; untouched = rw e }
 
 pub short_told : ShortTold
-unfolding fed fed_in
-short_told = record {
-  short = λ s p l h. let e = lt-ltb (length l) 2059 h in record { told = rw e; kept = rw e; untouched = rw e };
-  stays = λ s p l h. let (a, b, c) = told_by_lem s p l h (ltb (length l) 2059) (eqb s.phase 255) (eq-eqb s.phase 255 h) in record { told = a; kept = b; untouched = c };
-}
+short_told = record { short = by_length; stays = by_phase }
 
 -- ---- any state
 

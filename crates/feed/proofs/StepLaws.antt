@@ -1,101 +1,111 @@
 -- The bytes of a part, one behind another.
-use mathlib.Core.Path.{◌≡◌, refl, sym, ap, ◌∙◌}
-use Prim.Native.Nat.{ℕ, zero, suc, ◌+◌, ◌-◌, ◌≤◌, ◌<◌}
+use mathlib.Core.Path.{◌≡◌, refl, ap, ◌∙◌}
+use Prim.Native.Nat.{ℕ, ◌+◌, ◌≤◌, ◌<◌}
 use native.Mathlib.Omega.{arith}
-use mathlib.Core.Bool.{Bool, true, false, cond}
-use mathlib.Core.List.{List, [], ◌∷◌}
-use lib.ListN.{length, drop, set, get_or, length-set, drop_of_length-le}
-use lib.Seq.{drop-cons, drop-set-lt}
-use lib.Dec.{ltb, eqb}
-use borrow.Author.Tests.{ltb-true}
+use mathlib.Core.Bool.{cond}
+use mathlib.Core.List.{List, [], ◌∷◌, ◌++◌}
+use lib.ListN.{length, take, drop, set, get_or, length-set}
+use lib.Seq.{drop-set-lt, take-set-lt}
+use lib.Dec.{ltb}
+use Rattle.std.proofs.lemmas.Bool.Decides.{nat_tests}
+use Rattle.std.proofs.lemmas.List.{take_all, take_more, take-append-drop}
 use Rattle.feed.specs.declared.bytes.Fed.{Fed}
-use Rattle.feed.specs.Step.{more, stored, closed, closed_in, goes_on, goes_on_in, gone, gone_in, begun, begun_in, stepped, stepped_in, fed_bytes, fed_bytes_in, fed, fed_in}
+use Rattle.feed.specs.declared.bytes.Keeper.{Keeper}
+use Rattle.feed.specs.Step.{stored, closed_in, gone_in, begun_in, stepped, stepped_in, fed_bytes, fed_bytes_in, fed_in}
+use Rattle.feed.specs.Keeping.{Becomes}
 
--- ---- what no byte that is kept changes
+-- ---- the length of the buffer stays
 
--- something of the buffer that stays where a byte is kept stays at every step, and over a part
-module _ {A : Type 0} (g : List ℕ → A) (stays : (s : Fed) (b : ℕ) (l : List ℕ) → g (stored s b l) ≡ g l) where
-  either : (c : Bool) (a b l : List ℕ) → g a ≡ g l → g b ≡ g l → g (cond c a b) ≡ g l
-  either true a b l p q = p
-  either false a b l p q = q
-
-  goes_stays : (s : Fed) (m : ℕ) (l : List ℕ) → g (goes_on_in s m l) ≡ g l
-  unfolding closed_in
-  goes_stays s m l = either (eqb m 0) (closed_in s l) l l (either (eqb s.keep 1) (stored s 0 l) l l (stays s 0 l) refl) refl
-
-  gone_stays : (s : Fed) (m b : ℕ) (l : List ℕ) → g (gone_in s m b l) ≡ g l
-  unfolding gone_in
-  gone_stays s m b l =
-      either (ltb 1 s.keep) (goes_on_in (more s) m (stored s b l)) (goes_on_in s m l) l (goes_stays (more s) m (stored s b l) ∙ stays s b l) (goes_stays s m l)
-
-  step_stays : (s : Fed) (b : ℕ) (l : List ℕ) → g (stepped_in s b l) ≡ g l
-  unfolding stepped_in begun_in
-  step_stays s b l =
-      either (eqb s.phase 1) (gone_in s b b l) (cond (eqb s.phase 2) (gone_in s (s.missing - 1) b l) (begun_in s b l)) l (gone_stays s b b l)
-      (either (eqb s.phase 2) (gone_in s (s.missing - 1) b l) (begun_in s b l) l (gone_stays s (s.missing - 1) b l) (either (eqb b 0) l (stored s b l) l refl (stays s b l)))
-
-  bytes_stay : (bs : List ℕ) (s : Fed) (l : List ℕ) → g (fed_bytes_in s bs l) ≡ g l
-  unfolding fed_bytes_in
-  bytes_stay [] s l = refl
-  bytes_stay (b ∷ bs) s l = bytes_stay bs (stepped s b) (stepped_in s b l) ∙ step_stays s b l
-
-  part_stays : (s : Fed) (bs l : List ℕ) → g (fed_in s bs l) ≡ g l
-  unfolding fed_in
-  part_stays s bs l = either (ltb (length l) 2059) l (cond (eqb s.phase 255) l (fed_bytes_in s bs l)) l refl (either (eqb s.phase 255) l (fed_bytes_in s bs l) l refl (bytes_stay bs s l))
-
--- its length
 pub stored-length : (s : Fed) (b : ℕ) (l : List ℕ) → length (stored s b l) ≡ length l
 unfolding stored
-stored-length s b l = go (ltb s.size 2059)
-  where
-    go : (c : Bool) → length (cond c (set l s.size b) l) ≡ length l
-    go true = length-set l s.size b
-    go false = refl
+stored-length s b l = grind (arith, nat_tests, length-set)
 
 pub stepped_length : (s : Fed) (b : ℕ) (l : List ℕ) → length (stepped_in s b l) ≡ length l
-stepped_length s b l = step_stays length stored-length s b l
+unfolding stepped_in begun_in gone_in closed_in
+stepped_length s b l = grind (arith, nat_tests, stored-length)
+
+bytes_length : (bs : List ℕ) (s : Fed) (l : List ℕ) → length (fed_bytes_in s bs l) ≡ length l
+unfolding fed_bytes_in
+bytes_length [] s l = refl
+bytes_length (b ∷ bs) s l = bytes_length bs (stepped s b) (stepped_in s b l) ∙ stepped_length s b l
 
 pub fed_length : (s : Fed) (bs l : List ℕ) → length (fed_in s bs l) ≡ length l
-fed_length s bs l = part_stays length stored-length s bs l
+unfolding fed_in
+fed_length s bs l = grind (arith, nat_tests, bytes_length bs s l)
 
--- what lies behind the room for what is kept
+-- ---- what lies behind the room for what is kept stays
+
+set_behind : (n i b : ℕ) (l : List ℕ) → drop n (cond (ltb i n) (set l i b) l) ≡ drop n l
+set_behind n i b l = grind (arith, nat_tests, drop-set-lt)
+
 stored_behind : (s : Fed) (b : ℕ) (l : List ℕ) → drop 2059 (stored s b l) ≡ drop 2059 l
 unfolding stored
-stored_behind s b l = go (ltb s.size 2059) refl
-  where
-    go : (c : Bool) → ltb s.size 2059 ≡ c → drop 2059 (cond c (set l s.size b) l) ≡ drop 2059 l
-    go true e = drop-set-lt 2059 l s.size b (ltb-true s.size 2059 e)
-    go false e = refl
+stored_behind s b l = set_behind 2059 s.size b l
+
+stepped_behind : (s : Fed) (b : ℕ) (l : List ℕ) → drop 2059 (stepped_in s b l) ≡ drop 2059 l
+unfolding stepped_in begun_in gone_in closed_in
+stepped_behind s b l = grind (arith, nat_tests, stored_behind)
+
+bytes_behind : (bs : List ℕ) (s : Fed) (l : List ℕ) → drop 2059 (fed_bytes_in s bs l) ≡ drop 2059 l
+unfolding fed_bytes_in
+bytes_behind [] s l = refl
+bytes_behind (b ∷ bs) s l = bytes_behind bs (stepped s b) (stepped_in s b l) ∙ stepped_behind s b l
 
 pub fed_behind : (s : Fed) (bs l : List ℕ) → drop 2059 (fed_in s bs l) ≡ drop 2059 l
-fed_behind s bs l = part_stays (λ x. drop 2059 x) stored_behind s bs l
+unfolding fed_in
+fed_behind s bs l = grind (arith, nat_tests, bytes_behind bs s l)
+
+-- ---- what is kept in a buffer is kept in its room
+
+set_front : (n i b : ℕ) (l : List ℕ) → take n (cond (ltb i n) (set l i b) l) ≡ cond (ltb i n) (set (take n l) i b) (take n l)
+set_front n i b l = grind (arith, nat_tests, take-set-lt)
+
+stored_front : (s : Fed) (b : ℕ) (l : List ℕ) → take 2059 (stored s b l) ≡ stored s b (take 2059 l)
+unfolding stored
+stored_front s b l = set_front 2059 s.size b l
+
+stepped_front : (s : Fed) (b : ℕ) (l : List ℕ) → take 2059 (stepped_in s b l) ≡ stepped_in s b (take 2059 l)
+unfolding stepped_in begun_in gone_in closed_in
+stepped_front s b l = grind (arith, nat_tests, stored_front)
+
+bytes_front : (bs : List ℕ) (s : Fed) (l : List ℕ) → take 2059 (fed_bytes_in s bs l) ≡ fed_bytes_in s bs (take 2059 l)
+unfolding fed_bytes_in
+bytes_front [] s l = refl
+bytes_front (b ∷ bs) s l = bytes_front bs (stepped s b) (stepped_in s b l) ∙ ap (fed_bytes_in (stepped s b) bs) (stepped_front s b l)
+
+-- so the room and what lies behind it make the buffer
+pub bytes_in_room : (bs : List ℕ) (s : Fed) (l : List ℕ) → fed_bytes_in s bs (take 2059 l) ++ drop 2059 l ≡ fed_bytes_in s bs l
+bytes_in_room bs s l = rw (← bytes_front bs s l, ← bytes_behind bs s l) (take-append-drop 2059 (fed_bytes_in s bs l))
 
 -- ---- a pass over a part
 
--- what is left of a part, from an index on, leads where the whole part leads
-pub record Feeds (part : List ℕ) (s₀ : Fed) (l₀ : List ℕ) (i : ℕ) (s : Fed) (l : List ℕ) : Type 0 where
-  pub inside : i ≤ length part
-  pub state : fed_bytes s (drop i part) ≡ fed_bytes s₀ part
-  pub buffer : fed_bytes_in s (drop i part) l ≡ fed_bytes_in s₀ part l₀
-  pub long : length l ≡ length l₀
+fed_bytes_snoc : (bs : List ℕ) (s : Fed) (b : ℕ) → fed_bytes s (bs ++ b ∷ []) ≡ stepped (fed_bytes s bs) b
+unfolding fed_bytes
+fed_bytes_snoc [] s b = refl
+fed_bytes_snoc (x ∷ bs) s b = fed_bytes_snoc bs (stepped s x) b
 
-pub feeds_first : (part : List ℕ) (s : Fed) (l : List ℕ) → Feeds part s l 0 s l
-feeds_first part s l = record { inside = omega arith; state = refl; buffer = refl; long = refl }
-
-pub feeds_more : (part : List ℕ) (s₀ : Fed) (l₀ : List ℕ) (i : ℕ) (s : Fed) (l : List ℕ) (t : Fed) (m : List ℕ) → Feeds part s₀ l₀ i s l → i < length part
-    → t ≡ stepped s (get_or part i 0) → m ≡ stepped_in s (get_or part i 0) l → Feeds part s₀ l₀ (i + 1) t m
+fed_bytes_in_snoc : (bs : List ℕ) (s : Fed) (b : ℕ) (l : List ℕ) → fed_bytes_in s (bs ++ b ∷ []) l ≡ stepped_in (fed_bytes s bs) b (fed_bytes_in s bs l)
 unfolding fed_bytes fed_bytes_in
-feeds_more part s₀ l₀ i s l t m f h p q =
-    let one : suc i ≡ i + 1 = omega arith in
-    let d : drop i part ≡ get_or part i 0 ∷ drop (i + 1) part = rw (drop-cons part i 0 h, one) in
+fed_bytes_in_snoc [] s b l = refl
+fed_bytes_in_snoc (x ∷ bs) s b l = fed_bytes_in_snoc bs (stepped s x) b (stepped_in s x l)
+
+-- the bytes before an index are fed
+abbrev pub FedUpTo : (part : List ℕ) (i : ℕ) (old new : Keeper) → Type 0
+FedUpTo part i old new = Becomes old new (fed_bytes old.fed (take i part)) (fed_bytes_in old.fed (take i part) old.kept.now)
+
+pub fed_none : (part : List ℕ) (k : Keeper) → FedUpTo part 0 k k
+unfolding fed_bytes fed_bytes_in
+fed_none part k = record { state = refl; bytes = refl; same = refl }
+
+pub fed_one_more : (part : List ℕ) (i : ℕ) (old now new : Keeper) → FedUpTo part i old now → i < length part
+    → Becomes now new (stepped now.fed (get_or part i 0)) (stepped_in now.fed (get_or part i 0) now.kept.now) → FedUpTo part (i + 1) old new
+fed_one_more part i old now new f h b =
+    let t : take (i + 1) part ≡ take i part ++ get_or part i 0 ∷ [] = take_more part i 0 h in
     record {
-      inside = omega arith;
-      state = rw p (rw d at f.state);
-      buffer = rw (p, q) (rw d at f.buffer);
-      long = rw q (stepped_length s (get_or part i 0) l ∙ f.long);
+      state = rw (t, fed_bytes_snoc (take i part) old.fed (get_or part i 0), ← f.state) b.state;
+      bytes = rw (t, fed_bytes_in_snoc (take i part) old.fed (get_or part i 0) old.kept.now, ← f.state, ← f.bytes) b.bytes;
+      same = b.same ∙ f.same;
     }
 
-pub feeds_end : (part : List ℕ) (s₀ : Fed) (l₀ : List ℕ) (i : ℕ) (s : Fed) (l : List ℕ) → Feeds part s₀ l₀ i s l → length part ≤ i
-    → (s ≡ fed_bytes s₀ part) × (l ≡ fed_bytes_in s₀ part l₀)
-unfolding fed_bytes fed_bytes_in
-feeds_end part s₀ l₀ i s l f h = (rw (drop_of_length-le part h) at f.state, rw (drop_of_length-le part h) at f.buffer)
+pub fed_all : (part : List ℕ) (i : ℕ) (old new : Keeper) → FedUpTo part i old new → length part ≤ i → Becomes old new (fed_bytes old.fed part) (fed_bytes_in old.fed part old.kept.now)
+fed_all part i old new f h = rw (take_all i part h) at f

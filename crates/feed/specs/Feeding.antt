@@ -1,5 +1,5 @@
 -- A run fed in parts: the type 2 options of what was fed so far are kept, as a run that reads as all of it.
-use Rattle.std.specs.Prelude.{ℕ, zero, suc, ◌-◌, Bool, true, false, cond, List, [], ◌∷◌, ◌++◌, length, take, ltb, eqb}
+use Rattle.std.specs.Prelude.{ℕ, zero, suc, ◌-◌, cond, List, [], ◌∷◌, ◌++◌, length, take, ltb, eqb}
 
 -- what becomes of the option in hand: dropped; kept as an empty container, for the ninth; kept whole
 pub data Keep : Type 0 where

@@ -1,5 +1,5 @@
 -- What is kept of parts, on each side of each boundary.
-use Rattle.std.specs.Prelude.{◌≡◌, ℕ, List, [], ◌∷◌, ◌++◌, length, replicate}
+use Rattle.std.specs.Prelude.{ℕ, List, [], ◌∷◌, ◌++◌, replicate}
 use Rattle.model.specs.Run.{concat}
 use Rattle.model.specs.Samples.{Example, ◌gives◌, Holds}
 use Rattle.feed.specs.Step.{state, fed, fed_in}

@@ -2,5 +2,6 @@
 #![tactic(auto)]
 
 mod bytes;
+mod phase;
 
 pub use bytes::{Fed, KEPT_ROOM, feed};

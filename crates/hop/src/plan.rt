@@ -95,9 +95,12 @@ fn plan_object(p: Planned, own: Own, neighbour: Neighbour, header: Header, body:
             filled,
         };
     }
-    Planned {
-        leaf: metric::object_leaf(own, neighbour, header, body),
-        filled,
+    match metric::object_leaf(own, neighbour, header, body) {
+        Ok(()) => Planned { leaf: 0, filled },
+        Err(leaf) => Planned {
+            leaf: leaf.number(),
+            filled,
+        },
     }
 }
 

@@ -8,11 +8,11 @@ use mathlib.Core.List.{List, [], ◌∷◌, ◌++◌}
 use lib.ListN.{length, get_or, drop, set, length-set, length-append, drop_of_length-le}
 use lib.Seq.{drop-cons}
 use lib.Dec.{ltb, eqb}
-use borrow.Author.Tests.{ltb-true, ltb-false}
+use borrow.Author.Tests.{ltb-true}
 use Rattle.model.specs.Constraint.{colour_in}
 use Rattle.model.specs.Update.{count_colour}
 use Rattle.model.proofs.BoolLaws.{both}
-use Rattle.metric.specs.Colours.{gains_in, place_of, Passes}
+use Rattle.metric.specs.Colours.{gains_in, place_of}
 
 -- ---- a list from an index on, two bytes at a time
 
@@ -22,36 +22,7 @@ step_two s i h = rw (drop-cons s i 0 (omega arith), ← add-one i, drop-cons s (
 pub step_lone : (s : List ℕ) (i : ℕ) → i < length s → length s - i < 2 → drop i s ≡ get_or s i 0 ∷ []
 step_lone s i h g = rw (drop-cons s i 0 h, drop_of_length-le s {i = suc i} (omega arith))
 
--- ---- past those that do not gain
-
-module _ (v : ℕ) (s : List ℕ) (i : ℕ) where
-  -- no whole sub-object is left
-  pub passes_end : i ≤ length s → length s < i + 2 → Passes v s i i
-  passes_end h g = record { from = omega arith; to = h; same = refl; stops = λ e. go (ltb i (length s)) refl }
-    where
-      go : (b : Bool) → ltb i (length s) ≡ b → place_of v (drop i s) ≡ 0
-      go true e = let l = ltb-true i (length s) e in rw (step_lone s i l (omega arith))
-      go false e = let l = ltb-false i (length s) e in rw (drop_of_length-le s l)
-
-  -- it gains
-  pub passes_none : i + 2 ≤ length s → gains_in v (get_or s i 0) (get_or s (i + 1) 0) ≡ true → Passes v s i i
-  passes_none h t = record { from = omega arith; to = omega arith; same = refl; stops = λ e. rw (step_two s i h, t) }
-
-  -- it does not
-  pub passes_one : i + 2 ≤ length s → gains_in v (get_or s i 0) (get_or s (i + 1) 0) ≡ false → Passes v s i (i + 2)
-  passes_one h t = record { from = omega arith; to = h; same = rw (step_two s i h, t) (omega arith); stops = λ e. absurd (omega arith) }
-
-pub passes_both : (v : ℕ) (s : List ℕ) (i j k : ℕ) → Passes v s i j → Passes v s j k → Passes v s i k
-passes_both v s i j k p q = record {
-  from = omega (arith, p.from, q.from);
-  to = q.to;
-  same = q.same ∙ p.same;
-  stops = λ e. p.stops (omega (arith, p.from, q.from));
-}
-
--- the place, where the search stops
-pub place_found : (v : ℕ) (s : List ℕ) (i j : ℕ) → Passes v s i j → j ≤ i → i + place_of v (drop i s) ≡ place_of v s → i ≡ place_of v s
-place_found v s i j p h e = let z = p.stops (omega (arith, p.from)) in omega (arith, z, e)
+-- ---- where the search stops
 
 pub place_within : (v : ℕ) (s : List ℕ) → place_of v s ≤ length s
 place_within v [] = omega arith

@@ -1,12 +1,12 @@
 -- Leaf answers 31 to 34 and 36, as code tests them.
-use mathlib.Core.Path.{◌≡◌, refl, sym, ◌∙◌}
-use Prim.Native.Nat.{ℕ, zero, suc, ◌+◌, ◌/◌, ◌%◌, ◌≤◌, ◌<◌}
+use mathlib.Core.Path.{◌≡◌, refl, sym, ap, ◌∙◌}
+use Prim.Native.Nat.{ℕ, zero, suc, ◌+◌, ◌/◌, ◌%◌, ◌<◌}
 use native.Mathlib.Omega.{arith}
-use mathlib.Core.Bool.{Bool, true, false, cond, not, ◌&&◌, and-false, false≢true, true≢false}
+use mathlib.Core.Bool.{Bool, true, false, cond, not, ◌&&◌, and-false, false≢true}
 use mathlib.Core.List.{List}
 use lib.ListN.{length, get_or, get_or-eq_default}
 use lib.Dec.{ltb, eqb}
-use borrow.Author.Tests.{le-ltb, eq-eqb, ne_eqb}
+use borrow.Author.Tests.{le-ltb}
 use Rattle.std.specs.Prelude.{Some, None}
 use Rattle.model.specs.declared.Own.{Own}
 use Rattle.model.specs.declared.Neighbour.{Neighbour}
@@ -14,9 +14,10 @@ use Rattle.model.specs.Number.{is_set, number}
 use Rattle.model.specs.Object.{object, kind_of, Kind, unknown, lql, colour, node, scalar, role_of, constraint, recorded, aggregated}
 use Rattle.model.specs.Update.{must_fit, width_of, is_beyond, object_leaf}
 use Rattle.model.proofs.TypeLaws.{by_type}
+use Rattle.std.specs.Option.{is_some}
 use Rattle.wire.specs.Number.{number_in}
 use Rattle.metric.specs.Next.{link_of, full_in, aggregated_leaf}
-use Rattle.metric.specs.Sums.{sum_in, is_over}
+use Rattle.metric.specs.Sums.{sum_in}
 use Rattle.metric.proofs.ValueLaws.{sum_past}
 
 -- a byte that a body does not have is 0
@@ -38,9 +39,9 @@ bit_clear x = go (x % 2) (omega arith)
 -- ---- 36
 
 -- the sum of a body's number, 0 for a body of another width, with a value that fits
-past_number : (b : List ℕ) (v : ℕ) → v < 4294967296 → is_over (sum_in 4294967295 (number_in 4 b) v) ≡ eqb (length b) 4 && ltb 4294967295 (number b + v)
+past_number : (b : List ℕ) (v : ℕ) → v < 4294967296 → is_some (sum_in 4294967295 (number_in 4 b) v) ≡ not (eqb (length b) 4 && ltb 4294967295 (number b + v))
 unfolding number_in
-past_number b v h = sum_past 4294967295 (number_in 4 b) v ∙ go (eqb (length b) 4)
+past_number b v h = sum_past 4294967295 (number_in 4 b) v ∙ ap not (go (eqb (length b) 4))
   where
     go : (t : Bool) → ltb 4294967295 (cond t (number b) 0 + v) ≡ t && ltb 4294967295 (number b + v)
     go true = refl
@@ -53,15 +54,19 @@ module _ (c : Neighbour) (b : List ℕ) where
   beyond_other = by_type (λ t. not (eqb t 4) && not (eqb t 5) ≡ true → false ≡ is_beyond c (kind_of t) b)
       (λ e. refl) (λ e. refl) (λ e. refl) (λ e. refl) (λ e. absurd (false≢true e)) (λ e. absurd (false≢true e)) (λ e. refl) (λ e. refl) (λ e. refl) (λ t p e. rw p.kind)
 
-  pub beyond_known : (t v : ℕ) → not (eqb t 4) && not (eqb t 5) ≡ false → link_of c (kind_of t) ≡ Some v → v < 4294967296
-      → is_over (sum_in 4294967295 (number_in 4 b) v) ≡ is_beyond c (kind_of t) b
+  pub beyond_known : (t v : ℕ) → 3 < t → t < 6 → link_of c (kind_of t) ≡ Some v → v < 4294967296
+      → is_some (sum_in 4294967295 (number_in 4 b) v) ≡ not (is_beyond c (kind_of t) b)
   unfolding kind_of
-  beyond_known t v e l h = past_number b v h ∙ by_type (λ t. not (eqb t 4) && not (eqb t 5) ≡ false → link_of c (kind_of t) ≡ Some v
-      → eqb (length b) 4 && ltb 4294967295 (number b + v) ≡ is_beyond c (kind_of t) b)
-      other other other other (λ e l. rw l) (λ e l. rw l) other other other (λ t p e. absurd (true≢false (rw (p.four, p.five) at e))) t e l
+  beyond_known t v p q l h = past_number b v h ∙ ap not (go t p q l)
     where
-      other : {A B : Type 0} → true ≡ false → A → B
-      other e a = absurd (true≢false e)
+      go : (t : ℕ) → 3 < t → t < 6 → link_of c (kind_of t) ≡ Some v → eqb (length b) 4 && ltb 4294967295 (number b + v) ≡ is_beyond c (kind_of t) b
+      go zero p q l = absurd (omega arith)
+      go (suc zero) p q l = absurd (omega arith)
+      go (suc (suc zero)) p q l = absurd (omega arith)
+      go (suc (suc (suc zero))) p q l = absurd (omega arith)
+      go (suc (suc (suc (suc zero)))) p q l = rw l
+      go (suc (suc (suc (suc (suc zero))))) p q l = rw l
+      go (suc (suc (suc (suc (suc (suc n)))))) p q l = absurd (omega arith)
 
   pub beyond_unknown : (t : ℕ) → link_of c (kind_of t) ≡ None → false ≡ is_beyond c (kind_of t) b
   beyond_unknown t = go (kind_of t)
@@ -73,12 +78,12 @@ module _ (c : Neighbour) (b : List ℕ) where
       go (node n) l = refl
       go (scalar s) l = rw l (sym (and-false (must_fit s && eqb (length b) (width_of s))))
 
--- A above 0, and A=0
-pub above_0 : (a : ℕ) → 0 < a → eqb a 0 ≡ false
-above_0 a h = ne_eqb a 0 (λ e. omega arith)
-
-pub not_above_0 : (a : ℕ) → a ≤ 0 → eqb a 0 ≡ true
-not_above_0 a h = eq-eqb a 0 (omega arith)
+-- what does not fit is beyond
+pub not_same : (r s : Bool) → not r ≡ not s → r ≡ s
+not_same true true e = refl
+not_same true false e = cc
+not_same false true e = cc
+not_same false false e = refl
 
 -- ---- by the role
 

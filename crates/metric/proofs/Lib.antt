@@ -1,7 +1,7 @@
 pub mod KindLaws
-pub mod RoleLaws
 pub mod ValueLaws
 pub mod LeafLaws
+pub mod RoleLaws
 pub mod SizeLaws
 pub mod LevelLaws
 pub mod ColourLaws

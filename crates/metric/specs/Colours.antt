@@ -1,5 +1,5 @@
--- The sub-objects of colour, two bytes each: the one that counts the hop, and how far those before it reach.
-use Rattle.std.specs.Prelude.{◌≡◌, ℕ, ◌+◌, ◌*◌, ◌/◌, ◌%◌, ◌≤◌, Bool, cond, ◌&&◌, List, [], ◌∷◌, length, drop, ltb, eqb}
+-- The sub-objects of colour, two bytes each: the one that counts the hop.
+use Rattle.std.specs.Prelude.{ℕ, ◌+◌, ◌*◌, ◌/◌, ◌%◌, Bool, cond, ◌&&◌, List, [], ◌∷◌, ltb, eqb}
 use Rattle.model.specs.Constraint.{colour_in}
 
 -- a sub-object that gains the hop's count: the link's colour, and a counter below 63
@@ -11,13 +11,6 @@ abbrev pub place_of : (colour : ℕ) → List ℕ → ℕ
 place_of v [] = 0
 place_of v (x ∷ []) = 0
 place_of v (x ∷ y ∷ t) = cond (gains_in v x y) 0 (2 + place_of v t)
-
--- from an index to another, past sub-objects that do not gain: the place is the same from both on, and it is reached where none is passed
-pub record Passes (colour : ℕ) (subs : List ℕ) (at behind : ℕ) : Type 0 where
-  pub from : at ≤ behind
-  pub to : behind ≤ length subs
-  pub same : behind + place_of colour (drop behind subs) ≡ at + place_of colour (drop at subs)
-  pub stops : behind ≡ at → place_of colour (drop at subs) ≡ 0
 
 -- byte 2 of a constraint: the reserved bits cleared, the colour's two bits and I kept
 abbrev pub clear_third : ℕ → ℕ

@@ -1,3 +1,4 @@
 pub mod Next
 pub mod Sums
 pub mod Colours
+pub mod Leaf

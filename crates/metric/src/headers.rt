@@ -1,5 +1,5 @@
 // Header bytes for the next hop.
-ghost use Rattle.std.specs.Prelude.{◌≡◌};
+ghost use Rattle.std.specs.Prelude.{◌≡◌, ◌||◌, eqb};
 ghost use Rattle.model.specs.Object.{kind_of, role_of};
 ghost use Rattle.model.specs.Update.{adds_nothing, next_flags, next_mode};
 
@@ -7,12 +7,19 @@ use crate::values;
 use model::Neighbour;
 use wire::Header;
 
+// Whether a metric's value is one number: throughput, latency and ETX.
+fn is_scalar(mctype: u8) -> bool
+    ensures { result ≡ eqb mctype 4 || eqb mctype 5 || eqb mctype 7 }
+{
+    matches!(mctype, 4 | 5 | 7)
+}
+
 // Whether this hop adds nothing to a recorded metric: its type is not known, or the link's value is not.
 fn adds_nothing(neighbour: Neighbour, mctype: u8) -> bool
     ensures { result ≡ adds_nothing neighbour (kind_of mctype) }
 {
-    if (mctype == 4) | (mctype == 5) | (mctype == 7) {
-        return values::is_unknown(values::link_value(neighbour, mctype));
+    if is_scalar(mctype) {
+        return values::link_value(neighbour, mctype).is_none();
     }
     !wire::is_known(mctype)
 }

@@ -14,12 +14,5 @@ pub fn counts_in(level: u8, sub: u8) -> bool
 pub(crate) fn is_counted(level: u8, subs: &[u8]) -> bool
     ensures { result ≡ any_of (counts_in level) subs.now }
 {
-    let mut i: usize = 0;
-    while i < subs.len() {
-        if counts_in(level, subs[i]) {
-            return true;
-        }
-        i += 1;
-    }
-    false
+    subs.iter().any(|sub| counts_in(level, *sub))
 }

@@ -3,6 +3,7 @@
 
 mod colours;
 mod headers;
+mod leaf;
 mod leaves;
 mod levels;
 mod pairs;
@@ -11,6 +12,7 @@ mod values;
 
 pub use colours::{clear_third, place_of};
 pub use headers::{next_flags, next_mode};
+pub use leaf::Leaf;
 pub use leaves::object_leaf;
 pub use levels::counts_in;
 pub use pairs::{clear_first, clear_second, combine_second};

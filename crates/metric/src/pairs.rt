@@ -7,26 +7,26 @@ ghost use Rattle.metric.specs.Next.{clear_first, clear_second, combine_second};
 use crate::values;
 
 // Byte 0 of a constraint's or an aggregated node metric's body, its reserved bits cleared.
+#[tactic(auto, using(crate::proofs::KindLaws::first_other), unfolding(model::specs::Object::kind_of))]
 pub fn clear_first(mctype: u8, x: u8) -> u8
     ensures { result ≡ clear_first (kind_of mctype) x }
 {
-    if mctype == 2 {
-        return x % 16;
+    match mctype {
+        2 => x % 16,
+        1 | 3 | 6 | 8 => 0,
+        _ => x,
     }
-    if (mctype == 1) | (mctype == 3) | (mctype == 6) | (mctype == 8) {
-        return 0;
-    }
-    x
 }
 
 // Byte 1 of a constraint's body, its reserved bits cleared.
+#[tactic(auto, using(crate::proofs::KindLaws::second_other), unfolding(model::specs::Object::kind_of))]
 pub fn clear_second(mctype: u8, y: u8) -> u8
     ensures { result ≡ clear_second (kind_of mctype) y }
 {
-    if mctype == 1 {
-        return y % 4;
+    match mctype {
+        1 => y % 4,
+        _ => y,
     }
-    y
 }
 
 // Both flags of NSA, combined with the node's own.
@@ -42,11 +42,9 @@ fn combine_flags(a: u8, v: u8, y: u8) -> u8
 pub fn combine_second(mctype: u8, a: u8, v: u8, y: u8) -> u8
     ensures { result ≡ combine_second (kind_of mctype) a v y }
 {
-    if mctype == 1 {
-        return combine_flags(a, v, y);
+    match mctype {
+        1 => combine_flags(a, v, y),
+        2 | 3 => values::combine(a, 255, y as u32, v as u32) as u8,
+        _ => y,
     }
-    if (mctype == 2) | (mctype == 3) {
-        return values::combine(a, 255, y as u32, v as u32) as u8;
-    }
-    y
 }

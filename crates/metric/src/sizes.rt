@@ -1,46 +1,60 @@
 // How much longer an object's body is for the next hop.
-ghost use Rattle.std.specs.Prelude.{◌≡◌, ◌+◌, ◌/◌, ◌%◌, ◌≤◌, length};
+ghost use Rattle.std.specs.Prelude.{◌≡◌, ◌+◌, ◌/◌, ◌%◌, ◌≤◌, length, cond, eqb};
 ghost use Rattle.model.specs.declared.Own.{Own};
 ghost use Rattle.model.specs.Object.{kind_of, role_of};
-ghost use Rattle.model.specs.Update.{next_body, recorded_body};
+ghost use Rattle.model.specs.Update.{next_body, recorded_body, counted_body, coloured_body, sub_object};
+ghost use Rattle.metric.specs.Next.{link_of};
 
 use crate::{colours, levels, values};
 use model::Neighbour;
 use wire::Header;
 
+// The bytes that a recorded LQL metric gains: none where a level counts the hop.
+fn level_growth(level: u8, body: &[u8]) -> usize
+    ensures result_len { length body.now + result ≡ length (counted_body level body.now) }
+    ensures small { result ≤ 4 }
+{
+    match body {
+        [_, levels @ ..] if !levels::is_counted(level, levels) => 1,
+        _ => 0,
+    }
+}
+
+// The bytes that a recorded colour metric gains: none where a sub-object counts the hop.
+fn colour_growth(colour: u16, body: &[u8]) -> usize
+    ensures result_len { length body.now + result ≡ length (coloured_body colour body.now) }
+    ensures small { result ≤ 4 }
+{
+    match body {
+        [_, subs @ ..] if colours::place_of(colour, subs) == subs.len() => 2,
+        _ => 0,
+    }
+}
+
+// The bytes that a recorded metric of one number gains: none where the link's value is not known.
+fn value_growth(neighbour: Neighbour, mctype: u8) -> usize
+    ensures small { result ≤ 4 }
+    ensures result_len { result ≡ length (sub_object (cond (eqb mctype 7) 2 4) (link_of neighbour (kind_of mctype))) }
+{
+    match values::link_value(neighbour, mctype) {
+        None => 0,
+        Some(_) if mctype == 7 => 2,
+        Some(_) => 4,
+    }
+}
+
 // The bytes that a recorded metric gains.
+#[tactic(auto, using(crate::proofs::SizeLaws::grows_value), unfolding(model::specs::Object::kind_of, model::specs::Update::recorded_body))]
 fn recorded_growth(neighbour: Neighbour, mctype: u8, body: &[u8]) -> usize
     ensures result_len { (own : Own) → length body.now + result ≡ length (recorded_body own neighbour (kind_of mctype) body.now) }
     ensures small { result ≤ 4 }
 {
-    if mctype == 2 {
-        return 2;
+    match mctype {
+        2 => 2,
+        6 => level_growth(neighbour.lql, body),
+        8 => colour_growth(neighbour.colour, body),
+        _ => value_growth(neighbour, mctype),
     }
-    if mctype == 6 {
-        if body.len() == 0 {
-            return 0;
-        }
-        if levels::is_counted(neighbour.lql, &body[1..]) {
-            return 0;
-        }
-        return 1;
-    }
-    if mctype == 8 {
-        if body.len() % 2 == 0 {
-            return 0;
-        }
-        if colours::place_of(neighbour.colour, &body[1..]) + 2 < body.len() {
-            return 0;
-        }
-        return 2;
-    }
-    if values::is_unknown(values::link_value(neighbour, mctype)) {
-        return 0;
-    }
-    if mctype == 7 {
-        return 2;
-    }
-    4
 }
 
 // The bytes that a body gains for the next hop.

@@ -11,8 +11,8 @@ use Rattle.model.specs.declared.Own.{Own}
 use Rattle.model.specs.declared.Summary.{Summary}
 use Rattle.model.specs.declared.Neighbour.{Neighbour}
 use Rattle.model.specs.declared.Candidate.{Candidate}
-use Rattle.model.specs.declared.Verdict.{Verdict}
-use Rattle.model.specs.declared.Verdict.TheVariants.{Unbarred, Barred}
+use Rattle.model.specs.Verdict.{Verdict}
+use Rattle.model.specs.Verdict.{Unbarred, Barred}
 use Rattle.model.specs.Number.{any_of, Case, ◌when◌, first_case, first_of, index_of}
 use Rattle.model.specs.Object.{Object, Standing, standings}
 use Rattle.model.specs.Reading.{no_place, malformed, repeated, misused, Reading, refused, well_formed}

@@ -11,8 +11,8 @@ use borrow.Author.Tests.{ltb-false, eqb-false}
 use Rattle.model.specs.declared.Offer.{Offer}
 use Rattle.model.specs.declared.Own.{Own}
 use Rattle.model.specs.declared.Candidate.{Candidate}
-use Rattle.model.specs.declared.Choice.{Choice}
-use Rattle.model.specs.declared.Choice.TheVariants.{Nobody, Parent}
+use Rattle.model.specs.Choice.{Choice}
+use Rattle.model.specs.Choice.{Nobody, Parent}
 use Rattle.model.specs.Verdict.{verdict, number_of, is_unbarred}
 use Rattle.model.specs.Choice.{bad_own, too_many, current_past, short_output, refusal, unless_leaf, outgoing, no_parent, parent_of, leaf_of, answered, verdicts, choice_of, call}
 use Rattle.model.proofs.BoolLaws.{neither}

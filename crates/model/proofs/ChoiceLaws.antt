@@ -14,10 +14,10 @@ use lib.Dec.{ltb, eqb}
 use borrow.Author.Tests.{lt-ltb, le-ltb, eq-eqb, ltb-true, ltb-false, eqb-true}
 use Rattle.model.specs.Number.{Quantity}
 use Rattle.model.specs.declared.Offer.{Offer}
-use Rattle.model.specs.declared.Verdict.{Verdict}
-use Rattle.model.specs.declared.Verdict.TheVariants.{Unbarred, Barred}
-use Rattle.model.specs.declared.Choice.{Choice}
-use Rattle.model.specs.declared.Choice.TheVariants.{Nobody, Parent}
+use Rattle.model.specs.Verdict.{Verdict}
+use Rattle.model.specs.Verdict.{Unbarred, Barred}
+use Rattle.model.specs.Choice.{Choice}
+use Rattle.model.specs.Choice.{Nobody, Parent}
 use Rattle.model.specs.Number.{is_set, any_of}
 use Rattle.model.specs.Reading.{no_place}
 use Rattle.model.specs.Verdict.{number_of, is_unbarred}

@@ -11,9 +11,9 @@ use lib.Dec.{leb, ltb, eqb}
 use borrow.Author.Tests.{le-ltb, eq-eqb, ne_eqb}
 use Rattle.model.specs.Number.{Quantity}
 use Rattle.model.specs.declared.Own.{Own}
-use Rattle.model.specs.declared.Verdict.{Verdict}
-use Rattle.model.specs.declared.Choice.{Choice}
-use Rattle.model.specs.declared.Choice.TheVariants.{Nobody}
+use Rattle.model.specs.Verdict.{Verdict}
+use Rattle.model.specs.Choice.{Choice}
+use Rattle.model.specs.Choice.{Nobody}
 use Rattle.model.specs.Choice.{current_of, current_past, not_current, precedes, after_verdict, choose_from, choose, unbarred_bit, bits_of, sixteen}
 use Rattle.model.proofs.ConstraintLaws.{satisfies_known}
 

@@ -8,7 +8,7 @@ use Rattle.model.specs.declared.Neighbour.{Neighbour}
 use Rattle.model.specs.declared.Candidate.{Candidate}
 use borrow.Author.Tests.{not-false}
 use Rattle.model.specs.declared.Offer.{Offer}
-use Rattle.model.specs.declared.Verdict.TheVariants.{Unbarred, Barred}
+use Rattle.model.specs.Verdict.{Unbarred, Barred}
 use Rattle.model.specs.Number.{any_of, first_of, index_of}
 use Rattle.model.specs.Object.{Object}
 use Rattle.model.specs.Reading.{no_place, well_formed}

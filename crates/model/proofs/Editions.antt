@@ -11,8 +11,8 @@ use Rattle.model.specs.declared.Own.{Own}
 use Rattle.model.specs.declared.Neighbour.{Neighbour}
 use Rattle.model.specs.declared.Candidate.{Candidate}
 use Rattle.model.specs.declared.Summary.{Summary}
-use Rattle.model.specs.declared.Choice.{Choice}
-use Rattle.model.specs.declared.Choice.TheVariants.{Nobody, Parent}
+use Rattle.model.specs.Choice.{Choice}
+use Rattle.model.specs.Choice.{Nobody, Parent}
 use Rattle.model.specs.Number.{first_of, index_of}
 use Rattle.model.specs.Object.{Object, Kind, unknown, lql, colour, node, scalar, nsa, ne, hp, Scalar, throughput, latency, etx, Role, constraint, recorded, aggregated, role, kind, field_a}
 use Rattle.model.specs.Reading.{Reading, refused, well_formed}

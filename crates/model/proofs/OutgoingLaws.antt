@@ -9,8 +9,8 @@ use lib.Seq.{take-append_seam}
 use Rattle.model.specs.declared.Offer.{Offer}
 use Rattle.model.specs.declared.Own.{Own}
 use Rattle.model.specs.declared.Candidate.{Candidate}
-use Rattle.model.specs.declared.Choice.{Choice}
-use Rattle.model.specs.declared.Choice.TheVariants.{Nobody, Parent}
+use Rattle.model.specs.Choice.{Choice}
+use Rattle.model.specs.Choice.{Nobody, Parent}
 use Rattle.model.specs.Object.{Object}
 use Rattle.model.specs.Reading.{well_formed}
 use Rattle.model.specs.Run.{read_run}

@@ -7,7 +7,7 @@ use lib.Dec.{leb, ltb, eqb}
 use borrow.Author.Tests.{eqb-true, le-leb, lt-leb}
 use Rattle.model.specs.declared.Own.{Own}
 use Rattle.model.specs.declared.Neighbour.{Neighbour}
-use Rattle.model.specs.declared.Verdict.TheVariants.{Unbarred, Barred}
+use Rattle.model.specs.Verdict.{Unbarred, Barred}
 use Rattle.model.specs.Number.{is_set, satisfies}
 use Rattle.model.specs.Reading.{no_place}
 use Rattle.model.specs.Rank.{lowest_of, infinite, resulting, rank_too_high, above_lowest}

@@ -10,8 +10,8 @@ use lib.Seq.{take-append_seam}
 use Rattle.model.specs.declared.Offer.{Offer}
 use Rattle.model.specs.declared.Own.{Own}
 use Rattle.model.specs.declared.Candidate.{Candidate}
-use Rattle.model.specs.declared.Verdict.TheVariants.{Unbarred}
-use Rattle.model.specs.declared.Choice.TheVariants.{Parent}
+use Rattle.model.specs.Verdict.{Unbarred}
+use Rattle.model.specs.Choice.{Parent}
 use Rattle.model.specs.Number.{any_of}
 use Rattle.model.specs.Object.{Object}
 use Rattle.model.specs.Reading.{well_formed}

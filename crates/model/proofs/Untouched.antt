@@ -8,8 +8,8 @@ use lib.ListN.{length, take, drop, length-append, length-drop}
 use lib.Seq.{take-append_seam, drop-append_seam}
 use Rattle.model.specs.declared.Own.{Own}
 use Rattle.model.specs.declared.Candidate.{Candidate}
-use Rattle.model.specs.declared.Verdict.{Verdict}
-use Rattle.model.specs.declared.Choice.{Choice}
+use Rattle.model.specs.Verdict.{Verdict}
+use Rattle.model.specs.Choice.{Choice}
 use Rattle.model.specs.Pack.{packed}
 use Rattle.model.proofs.PackLaws.{written}
 use Rattle.model.specs.Update.{update}

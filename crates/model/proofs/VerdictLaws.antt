@@ -13,8 +13,8 @@ use Rattle.model.specs.declared.Offer.{Offer}
 use Rattle.model.specs.declared.Own.{Own}
 use Rattle.model.specs.declared.Neighbour.{Neighbour}
 use Rattle.model.specs.declared.Candidate.{Candidate}
-use Rattle.model.specs.declared.Verdict.{Verdict}
-use Rattle.model.specs.declared.Verdict.TheVariants.{Unbarred, Barred}
+use Rattle.model.specs.Verdict.{Verdict}
+use Rattle.model.specs.Verdict.{Unbarred, Barred}
 use Rattle.model.specs.Object.{Object, join}
 use Rattle.model.specs.Reading.{Reading, refused, well_formed}
 use Rattle.model.specs.Run.{read_run}

@@ -9,11 +9,11 @@ use Rattle.model.specs.declared.Offer.{Offer}
 use Rattle.model.specs.declared.Own.{Own}
 use Rattle.model.specs.declared.Neighbour.{Neighbour}
 use Rattle.model.specs.declared.Candidate.{Candidate}
-use Rattle.model.specs.declared.Verdict.{Verdict}
-use Rattle.model.specs.declared.Verdict.TheVariants.{Unbarred, Barred}
-use Rattle.model.specs.declared.Choice.{Choice}
-use Rattle.model.specs.declared.Choice.TheVariants.{Nobody, Parent}
+use Rattle.model.specs.Verdict.{Verdict}
+use Rattle.model.specs.Verdict.{Unbarred, Barred}
 use Rattle.model.specs.declared.Answer.{Answer}
+use Rattle.model.specs.declared.Parent as code
+use Rattle.std.specs.Prelude as std
 use Rattle.model.specs.Number.{known_if, satisfies, Case, ◌when◌, first_case}
 use Rattle.model.specs.Reading.{no_place, Reading, refused, well_formed}
 use Rattle.model.specs.Run.{read_run}
@@ -21,6 +21,16 @@ use Rattle.model.specs.Pack.{packed}
 use Rattle.model.specs.Rank.{infinite}
 use Rattle.model.specs.Verdict.{run_of, verdict, number_of, place_of}
 use Rattle.model.specs.Update.{update, leaf_answer}
+
+-- the preferred parent, where there is one
+pub data Choice : Type 0 where
+  Nobody : Choice
+  Parent : (position : ℕ) → Offer → Choice
+
+-- the parent that code has in its Option
+abbrev pub choice_in : std.Option code.Parent → Choice
+choice_in std.None = Nobody
+choice_in (std.Some p) = Parent p.position p.offer
 
 -- ---- refusals
 

@@ -7,8 +7,8 @@ use Rattle.model.specs.declared.Answer.{Answer}
 use Rattle.model.specs.declared.Own.{Own}
 use Rattle.model.specs.declared.Neighbour.{Neighbour}
 use Rattle.model.specs.declared.Candidate.{Candidate}
-use Rattle.model.specs.declared.Verdict.{Verdict}
-use Rattle.model.specs.declared.Verdict.TheVariants.{Unbarred, Barred}
+use Rattle.model.specs.Verdict.{Verdict}
+use Rattle.model.specs.Verdict.{Unbarred, Barred}
 use Rattle.model.specs.Number.{is_set, any_of, number}
 use Rattle.model.specs.Object.{Object, bit_o, bit_c, bit_r, field_a, Standing, standings, kind_of, known}
 use Rattle.model.specs.Table.{row}

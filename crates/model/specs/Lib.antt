@@ -4,6 +4,7 @@ pub mod Table
 pub mod Reading
 pub mod Constraint
 pub mod Rank
+pub mod Bars
 pub mod Verdict
 pub mod Update
 pub mod Choice

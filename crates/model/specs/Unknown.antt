@@ -5,7 +5,7 @@ use Rattle.std.proofs.Math.ListN.{get_elem?}
 use Rattle.model.specs.declared.Own.{Own}
 use Rattle.model.specs.declared.Candidate.{Candidate}
 use Rattle.model.specs.declared.Offer.{Offer}
-use Rattle.model.specs.declared.Verdict.TheVariants.{Unbarred}
+use Rattle.model.specs.Verdict.{Unbarred}
 use Rattle.model.specs.declared.Answer.{Answer}
 use Rattle.model.specs.Number.{any_of}
 use Rattle.model.specs.Object.{Object, bit_c, bit_o, split, known, kind, recorded, role, is_recorded}

@@ -4,13 +4,24 @@ use Rattle.model.specs.declared.Own.{Own}
 use Rattle.model.specs.declared.Offer.{Offer}
 use Rattle.model.specs.declared.Neighbour.{Neighbour}
 use Rattle.model.specs.declared.Candidate.{Candidate}
-use Rattle.model.specs.declared.Verdict.{Verdict}
-use Rattle.model.specs.declared.Verdict.TheVariants.{Unbarred, Barred}
+use Rattle.model.specs.declared.verdicts.Verdict as code
+use Rattle.model.specs.declared.verdicts.Verdict.TheVariants as coded
+use Rattle.model.specs.Bars.{bar_number, bar_place}
 use Rattle.model.specs.Number.{first_of, index_of, Case, ◌when◌, first_case}
 use Rattle.model.specs.Reading.{no_place, Reading, refused, well_formed}
 use Rattle.model.specs.Run.{read_run}
 use Rattle.model.specs.Constraint.{summary, constraint_bar}
 use Rattle.model.specs.Rank.{resulting, rank_too_high, above_lowest}
+
+-- a verdict: unbarred with what it is compared by; or barred by a number, at the object of an index, or no_place
+pub data Verdict : Type 0 where
+  Unbarred : Offer → Verdict
+  Barred : (number place : ℕ) → Verdict
+
+-- the verdict that code has in its enum
+abbrev pub verdict_of : code.Verdict → Verdict
+verdict_of (coded.Unbarred r) = Unbarred r
+verdict_of (coded.Barred b) = Barred (bar_number b) (bar_place b)
 
 -- Sp outside 1..9, Rf outside 1..4, Sr above 5, LQL above 7, type above 3 or colour above 1023
 unfoldable pub out_of_range : Neighbour → Bool

@@ -2,6 +2,10 @@
 
 #![tactic(auto)]
 
+mod verdicts;
+
+pub use verdicts::{Bar, ObjectBar, Verdict};
+
 // A rank (RFC 6550): 65535 is the infinite rank, by which a node says that it has no route.
 #[repr(C)]
 #[derive(Clone, Copy, PartialEq, Eq, PartialOrd, Ord)]
@@ -90,23 +94,16 @@ pub struct Candidates {
 // metric adds them up along the path, else 0.
 #[derive(Clone, Copy)]
 pub struct Summary {
-    pub hops: Option<u32>,
+    pub hops: Option<u8>,
     pub latency: u32,
     pub etx: u16,
 }
 
-// Document 01's verdict: unbarred with what it is compared by, or barred by a number, at the object of index `place`; 65535 for none.
-#[derive(Clone, Copy)]
-pub enum Verdict {
-    Unbarred(Offer),
-    Barred { number: u8, place: u16 },
-}
-
-// The preferred parent, where there is one.
-#[derive(Clone, Copy)]
-pub enum Choice {
-    Nobody,
-    Parent { position: u8, offer: Offer },
+// The preferred parent: its position among the candidates, and what it is compared by.
+#[derive(Clone, Copy, PartialEq, Eq)]
+pub struct Parent {
+    pub position: u8,
+    pub offer: Offer,
 }
 
 // The answer of a call. No parent is 255, no rank is 65535, no object's place is 65535.

@@ -8,7 +8,7 @@ use lib.ListN.{length, take, drop}
 use borrow.Author.Tests.{eq-eqb, ne_eqb, lt-ltb, le-ltb}
 use Rattle.model.specs.declared.Own.{Own}
 use Rattle.model.specs.declared.Candidate.{Candidate}
-use Rattle.model.specs.declared.Verdict.TheVariants.{Barred}
+use Rattle.model.specs.Verdict.{Barred}
 use Rattle.model.specs.Run.{option_cut, ninth_container}
 use Rattle.model.specs.Verdict.{bad_numbers, run_of, outside, verdict}
 use Rattle.model.proofs.BoolLaws.{neither}

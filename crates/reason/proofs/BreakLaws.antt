@@ -12,7 +12,7 @@ use borrow.Author.Tests.{leb-true, leb-false, lt-ltb, le-ltb, eqb-true, eqb-fals
 use Rattle.model.specs.declared.Own.{Own}
 use Rattle.model.specs.declared.Neighbour.{Neighbour}
 use Rattle.model.specs.declared.Candidate.{Candidate}
-use Rattle.model.specs.declared.Verdict.TheVariants.{Barred}
+use Rattle.model.specs.Verdict.{Barred}
 use Rattle.model.specs.Object.{Object, object, before, split_up_to, split, standings}
 use Rattle.model.specs.Reading.{is_none, well_formed}
 use Rattle.model.specs.Run.{RplOption, pad1, option, leading, options_up_to, options, containers, joined, objects_of, options_in, joined_objects, option_cut, ninth_container, object_cut, read_run}

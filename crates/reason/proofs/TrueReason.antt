@@ -13,10 +13,10 @@ use Rattle.model.specs.Number.{Quantity}
 use Rattle.model.specs.declared.Own.{Own}
 use Rattle.model.specs.declared.Offer.{Offer}
 use Rattle.model.specs.declared.Candidate.{Candidate}
-use Rattle.model.specs.declared.Verdict.{Verdict}
-use Rattle.model.specs.declared.Verdict.TheVariants.{Unbarred, Barred}
-use Rattle.model.specs.declared.Choice.{Choice}
-use Rattle.model.specs.declared.Choice.TheVariants.{Nobody, Parent}
+use Rattle.model.specs.Verdict.{Verdict}
+use Rattle.model.specs.Verdict.{Unbarred, Barred}
+use Rattle.model.specs.Choice.{Choice}
+use Rattle.model.specs.Choice.{Nobody, Parent}
 use Rattle.model.specs.Number.{◌when◌, first_case}
 use Rattle.model.specs.Verdict.{offer_of, verdict, is_unbarred}
 use Rattle.model.specs.Choice.{bad_own, too_many, current_past, bad_edition, refusal, current_of, criteria, precedes, parent_of, Result, verdicts, choice_of, call}

@@ -12,9 +12,11 @@ use lib.Dec.{leb, ltb, eqb}
 use borrow.Author.Tests.{lt-ltb, le-ltb, le-leb, lt-leb, eqb-true, eqb-false, ltb-true, ltb-false, leb-false}
 use Rattle.model.specs.declared.Own.{Own}
 use Rattle.model.specs.declared.Candidate.{Candidate}
-use Rattle.model.specs.declared.Verdict.{Verdict}
-use Rattle.model.specs.declared.Choice.{Choice}
-use Rattle.model.specs.declared.Choice.TheVariants.{Nobody}
+use Rattle.model.specs.Verdict.{Verdict}
+use Rattle.model.specs.Choice.{Choice}
+use Rattle.model.specs.Choice.{Nobody}
+use Rattle.model.specs.declared.verdicts.Verdict as code
+use Rattle.model.specs.Verdict.{verdict_of}
 use Rattle.model.specs.Number.{◌when◌, first_case}
 use Rattle.model.specs.Verdict.{verdict}
 use Rattle.model.specs.Choice.{bad_own, too_many, current_past, bad_edition, refusal, current_of, after_verdict, choose_from, choice_of}
@@ -125,6 +127,14 @@ module _ {own : Own} {lent : List ℕ} {cs : List Candidate} {position i : ℕ} 
 
   pub asks_end : length cs ≤ i → (best ≡ choice_of own cs lent) × (asked ≡ verdict own lent (get_or cs position d))
   asks_end h = (rw (take_all i cs h) at pass.chosen, rw (lt-ltb position i (omega (arith, pass.among))) at pass.told)
+
+-- the verdict that is kept, as the model has it
+pub kept_of : (i p : ℕ) (v w : code.Verdict) → verdict_of (cond (eqb i p) v w) ≡ cond (eqb i p) (verdict_of v) (verdict_of w)
+kept_of i p v w = go (eqb i p)
+  where
+    go : (b : Bool) → verdict_of (cond b v w) ≡ cond b (verdict_of v) (verdict_of w)
+    go true = refl
+    go false = refl
 
 -- ---- what is answered
 

@@ -7,7 +7,7 @@ use Rattle.model.specs.declared.Own.{Own}
 use Rattle.model.specs.declared.Neighbour.{Neighbour}
 use Rattle.model.specs.declared.Offer.{Offer}
 use Rattle.model.specs.declared.Candidate.{Candidate}
-use Rattle.model.specs.declared.Verdict.TheVariants.{Unbarred, Barred}
+use Rattle.model.specs.Verdict.{Unbarred, Barred}
 use Rattle.model.specs.Number.{is_set, is_unknown, any_of}
 use Rattle.model.specs.Object.{Object}
 use Rattle.model.specs.Reading.{well_formed}

@@ -1,5 +1,6 @@
 -- What code has of a reason.
 use Rattle.std.specs.Prelude.{ℕ, Result, Ok, Err, ⊤}
+use Rattle.model.specs.Bars.{bar_number, bar_place}
 use Rattle.choice.specs.Difference as difference
 use Rattle.choice.specs.Refusal as refusal
 use Rattle.reason.specs.declared.reasons.Refused.{Refused}
@@ -30,7 +31,7 @@ refused_as (Err r) = refused_by r
 -- where a candidate stands
 abbrev pub standing_of : Standing → Why
 standing_of Chosen = chosen
-standing_of (Barred n i) = barred n i
+standing_of (Barred b) = barred (bar_number b) (bar_place b)
 standing_of (Beaten b d) = beaten_on b (difference.told d)
 
 -- or why its question is refused

@@ -6,7 +6,7 @@ use Rattle.std.specs.Prelude.{Some}
 use Rattle.model.specs.declared.Own.{Own}
 use Rattle.model.specs.declared.Neighbour.{Neighbour}
 use Rattle.model.specs.declared.Candidate.{Candidate}
-use Rattle.model.specs.declared.Verdict.TheVariants.{Barred}
+use Rattle.model.specs.Verdict.{Barred}
 use Rattle.model.specs.Rank.{resulting}
 use Rattle.model.specs.Verdict.{offer_of, verdict}
 use Rattle.model.specs.Choice.{bad_own, too_many, current_past, bad_edition, current_of, criteria, call}

@@ -1,13 +1,15 @@
 // Bar 19: what a constraint that is not met asks, and what the neighbour, the link or the path has.
 ghost use Rattle.std.specs.Prelude.{◌≡◌, ◌+◌, get_or};
-ghost use Rattle.reason.specs.Finding.{nsa_finding, energy_finding, ne_finding, hops_told, throughput_finding, level_finding, colour_finding, asked_with};
+ghost use Rattle.reason.specs.Finding.{nsa_finding, energy_finding, ne_finding, hops_finding, throughput_finding, level_finding, colour_finding, object_finding};
+ghost use Rattle.std.proofs.Math.Option.{some};
+ghost use Rattle.wire.specs.Front.{seen};
 ghost use Rattle.reason.specs.Way.{number_of};
 ghost use Rattle.reason.specs.Told.{by_number, finding_in, limit_told};
 ghost use Rattle.model.specs.Number.{known_if};
 
 use crate::findings::{Shortfall, Way};
-use model::Neighbour;
-use wire::Told;
+use model::{Neighbour, Summary};
+use wire::Object;
 
 // A byte of a body; 0 behind its end.
 fn byte_at(body: &[u8], i: usize) -> u8
@@ -71,19 +73,13 @@ fn of_ne(neighbour: Neighbour, flags: u8, limit: u8) -> Shortfall
     Shortfall::of(Way::BarredType, 0, nodetype, neighbour.nodetype)
 }
 
-// HP: by the count that a run tells, one more than it, 0 for none.
-#[tactic(auto, unfolding(crate::specs::Finding::hops_told))]
-fn of_hops(hops: u16, limit: u8) -> Shortfall
-    ensures { by_number result ≡ hops_told hops limit }
+// HP: by the count that a run tells.
+fn of_hops(hops: Option<u8>, limit: u8) -> Shortfall
+    ensures { by_number result ≡ hops_finding hops limit }
 {
-    if hops == 0 {
-        return Shortfall::of(Way::UnknownHops, 0, limit, 0);
-    }
-    Shortfall {
-        way: Way::Hops,
-        which: 0,
-        asked: limit as u64,
-        found: (hops - 1) as u64,
+    match hops {
+        Some(count) => Shortfall::of(Way::Hops, 0, limit, count),
+        None => Shortfall::of(Way::UnknownHops, 0, limit, 0),
     }
 }
 
@@ -195,32 +191,28 @@ fn of_colour(neighbour: Neighbour, high: u8, low: u8) -> Shortfall
     }
 }
 
-// What an unmet constraint of a type asks, and what was found; nothing for an unknown type.
+// What an unmet constraint asks, and what was found; nothing for an unknown type.
 #[tactic(auto, unfolding(crate::specs::Finding::asked_with))]
-pub(crate) fn of_type(
-    neighbour: Neighbour,
-    told: Told,
-    mctype: u8,
-    body: &[u8],
-) -> Option<Shortfall>
-    ensures { finding_in result ≡ asked_with neighbour (hops_told told.hops (get_or body.now 1 0)) told.latency told.etx mctype body.now }
+pub(crate) fn of_object(neighbour: Neighbour, summary: Summary, object: Object) -> Option<Shortfall>
+    ensures { finding_in result ≡ object_finding neighbour summary (some (seen object.entry)) }
 {
     let flags = neighbour.flags;
-    Some(match mctype {
+    let body = object.body;
+    Some(match object.header.mctype {
         1 => of_nsa(neighbour, byte_at(body, 1)),
         2 => of_ne(neighbour, byte_at(body, 0), byte_at(body, 1)),
-        3 => of_hops(told.hops, byte_at(body, 1)),
+        3 => of_hops(summary.hops, byte_at(body, 1)),
         4 => of_throughput(neighbour, wire::number_4(body)),
         5 => of_limit(
             LATENCY,
-            told.latency,
+            summary.latency,
             wire::number_4(body),
             if_set(flags / 16 % 2, neighbour.latency),
         ),
         6 => of_level(neighbour, byte_at(body, 1)),
         7 => of_limit(
             ETX,
-            told.etx as u32,
+            summary.etx as u32,
             wire::number_2(body) as u32,
             if_set(flags / 8 % 2, neighbour.etx as u32),
         ),

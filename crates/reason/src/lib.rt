@@ -2,12 +2,13 @@
 #![tactic(auto)]
 
 ghost use Rattle.std.specs.Prelude.{◌≡◌, cond, eqb};
-ghost use Rattle.model.specs.Choice.{current_of, after_verdict};
+ghost use Rattle.model.specs.Choice.{current_of, choice_in, after_verdict};
+ghost use Rattle.model.specs.Verdict.{verdict_of};
 ghost use Rattle.choice.specs.Given.{given};
 ghost use Rattle.reason.specs.Why.{why_refusal, reason_of, why};
 ghost use Rattle.reason.specs.Standing.{refused_as, why_of};
 
-use model::{Candidate, Choice, Own, Verdict};
+use model::{Bar, Candidate, Own, Parent, Verdict};
 
 mod asked;
 mod bars;
@@ -38,15 +39,12 @@ fn check_question(own: Own, count: usize, position: usize) -> Result<(), Refused
 }
 
 // The best candidate so far, with the verdict on one more.
-fn after(own: Own, best: Choice, position: u8, verdict: Verdict) -> Choice
-    ensures { result ≡ after_verdict (current_of own) best position verdict }
+fn after(own: Own, best: Option<Parent>, position: u8, verdict: Verdict) -> Option<Parent>
+    ensures { choice_in result ≡ after_verdict (current_of own) (choice_in best) position (verdict_of verdict) }
 {
     match verdict {
-        Verdict::Unbarred(offer) => choice::better(own, best, position, offer),
-        Verdict::Barred {
-            number: _,
-            place: _,
-        } => best,
+        Verdict::Unbarred(offer) => Some(choice::better(own, best, Parent { position, offer })),
+        Verdict::Barred(_) => best,
     }
 }
 
@@ -71,13 +69,10 @@ pub fn ask(
     ensures { why_of result ≡ why own (given candidates.now count) lent.now position }
 {
     check_question(own, count, position)?;
-    let mut best = Choice::Nobody;
-    let mut asked = Verdict::Barred {
-        number: 0,
-        place: 65535,
-    };
+    let mut best = None;
+    let mut asked = Verdict::Barred(Bar::Frame);
     for (i, candidate) in candidates[..count].iter().enumerate() {
-        let verdict = verdict::judge(own, *candidate, lent);
+        let verdict = verdict::judge(&own, candidate, lent);
         asked = kept(i, position, verdict, asked);
         best = after(own, best, i as u8, verdict);
     }

@@ -1,12 +1,16 @@
 // What is told of a candidate: that it is the parent, or why it is not.
 ghost use Rattle.std.specs.Prelude.{◌≡◌};
-ghost use Rattle.model.specs.Choice.{current_of};
+ghost use Rattle.model.specs.Choice.{current_of, choice_in};
+ghost use Rattle.model.specs.Verdict.{verdict_of};
 ghost use Rattle.reason.specs.Why.{reason_of, refused, beside_choice, by_verdict};
 ghost use Rattle.reason.specs.declared.reasons.Refused.TheVariants.{Call};
 ghost use Rattle.reason.specs.Standing.{kind_of, refused_by, standing_of};
 
 use choice::{Difference, Refusal};
-use model::{Choice, Offer, Own, Verdict};
+use model::{Bar, Own, Parent, Verdict};
+
+// The place of a candidate that no object bars.
+const NO_PLACE: u16 = 65535;
 
 // Why a question is refused: as a call is, or since its position is not below the count.
 #[derive(Clone, Copy, PartialEq, Eq, Debug)]
@@ -39,7 +43,7 @@ impl From<Refusal> for Refused {
 #[derive(Clone, Copy, PartialEq, Eq, Debug)]
 pub enum Standing {
     Chosen,
-    Barred { number: u8, place: u16 },
+    Barred(Bar),
     Beaten { parent: u8, difference: Difference },
 }
 
@@ -78,7 +82,7 @@ fn blank(kind: Kind) -> Reason
         number: 0,
         parent: 255,
         criterion: 0,
-        place: 65535,
+        place: NO_PLACE,
         value: 0,
         against: 0,
     }
@@ -90,10 +94,10 @@ impl From<Standing> for Reason {
     fn from(standing: Standing) -> Reason {
         match standing {
             Standing::Chosen => blank(Kind::Chosen),
-            Standing::Barred { number, place } => {
+            Standing::Barred(bar) => {
                 let mut reason = blank(Kind::Barred);
-                reason.number = number;
-                reason.place = place;
+                reason.number = bar.number();
+                reason.place = bar.place().unwrap_or(NO_PLACE);
                 reason
             }
             Standing::Beaten { parent, difference } => Reason {
@@ -120,20 +124,20 @@ impl From<Refused> for Reason {
 
 // An unbarred candidate beside the choice, which names a parent then.
 #[tactic(auto, unfolding(crate::specs::Why::beside_choice))]
-fn beside(own: Own, choice: Choice, position: u8, offer: Offer) -> Standing
-    ensures { standing_of result ≡ beside_choice (current_of own) choice position offer }
+fn beside(own: Own, choice: Option<Parent>, candidate: Parent) -> Standing
+    ensures { standing_of result ≡ beside_choice (current_of own) (choice_in choice) candidate.position candidate.offer }
 {
     match choice {
-        Choice::Nobody => Standing::Chosen,
-        Choice::Parent {
-            position: parent,
-            offer: than,
-        } => {
-            if parent == position {
+        None => Standing::Chosen,
+        Some(parent) => {
+            if parent.position == candidate.position {
                 return Standing::Chosen;
             }
-            match choice::first_difference(own, position, offer, parent, than) {
-                Some(difference) => Standing::Beaten { parent, difference },
+            match choice::first_difference(own, candidate, parent) {
+                Some(difference) => Standing::Beaten {
+                    parent: parent.position,
+                    difference,
+                },
                 None => Standing::Chosen,
             }
         }
@@ -142,11 +146,11 @@ fn beside(own: Own, choice: Choice, position: u8, offer: Offer) -> Standing
 
 // A candidate by its verdict and the choice.
 #[tactic(auto, unfolding(crate::specs::Why::by_verdict))]
-pub(crate) fn by_verdict(own: Own, choice: Choice, position: u8, verdict: Verdict) -> Standing
-    ensures { standing_of result ≡ by_verdict (current_of own) choice position verdict }
+pub(crate) fn by_verdict(own: Own, choice: Option<Parent>, position: u8, verdict: Verdict) -> Standing
+    ensures { standing_of result ≡ by_verdict (current_of own) (choice_in choice) position (verdict_of verdict) }
 {
     match verdict {
-        Verdict::Unbarred(offer) => beside(own, choice, position, offer),
-        Verdict::Barred { number, place } => Standing::Barred { number, place },
+        Verdict::Unbarred(offer) => beside(own, choice, Parent { position, offer }),
+        Verdict::Barred(bar) => Standing::Barred(bar),
     }
 }

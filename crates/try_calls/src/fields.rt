@@ -1,6 +1,5 @@
 // The numbers of a line.
 use std::num::TryFromIntError;
-use words::Decimal;
 
 // What is left of a line: numbers in decimal, each behind a space.
 #[derive(Drop)]
@@ -16,14 +15,6 @@ impl Fields<'_> {
         };
         let (word, rest) = text.split_at(words::find(text, 0, b' '));
         self.rest = rest;
-        T::try_from(decimal(word)?).ok()
-    }
-}
-
-// The number that a word spells, unless it is beyond 64 bits.
-fn decimal(word: &[u8]) -> Option<u64> {
-    match words::number(word) {
-        Decimal::Value(n) => Some(n),
-        Decimal::TooLarge | Decimal::NotANumber => None,
+        T::try_from(words::number(word).ok()?).ok()
     }
 }

@@ -1,4 +1,4 @@
-// Standard input.
+// Standard input. `choose` has another like it: a function that reads belongs to its program (docs/DECISIONS.md).
 use arrayvec::ArrayVec;
 use std::io;
 use std::io::{Read, Stdin};

@@ -1,15 +1,16 @@
-// Runs `choice::call` and `reason::explain` on the cases of its input, one to a line, and writes a line for each.
-// A case: NAME minhop maxincrease lowest nodetype flags energy edition current room count, then for each candidate (16 at most stand on
-// the line, whatever the count) rank sp rf sr nodetype flags energy lql etx latency throughput colour order preference start size, then
-// the bytes of the lent run. One space is between two words; numbers are decimal, bytes two hexadecimal digits. The numbers are the fields of `Own`
-// and `Candidate`; room is the length of the lent output, 2100 at most, whose bytes are all 0xEE before the call.
-// The answer: NAME refusal parent rank bits count leaf size, `verdicts` and those of the candidates on the line, each with `@` and
-// its place if it has one, `beyond` if any other verdict or place is set, `output` and the first `size` bytes of the output, then
-// `kept` if all bytes behind them are still 0xEE, else `changed`. No parent is 255, no rank 65535, as in `Answer`. Then `why` and the
-// reason at each candidate on the line and at the position equal to their number: `chosen`; V or V@I, barred by V, at object I;
-// B:K:V:A, beaten by candidate B on criterion K, with value V against A; `refused-N`, refused by N.
-// A line of another form has the answer NAME `unreadable`, or `unreadable` if it has no name. A line has 65,536 bytes at most, its
-// end among them; of a longer one each 65,536 bytes are taken for a line.
+// Runs `choice::call` and `reason::ask` on the cases of its input, one to a line, and writes a line for each.
+// A case: NAME minhop maxincrease lowest nodetype flags energy edition current room count, then for each candidate (16 at most
+// stand on the line, whatever the count) rank sp rf sr nodetype flags energy lql etx latency throughput colour order preference
+// start size, then the bytes of the lent run. One space is between two words; numbers are decimal, bytes two hexadecimal digits.
+// The numbers are the fields of `Own` and `Candidate`; room is the length of the lent output, 2100 at most, whose bytes are all
+// 0xEE before the call.
+// The answer: NAME refusal parent rank bits count leaf size, `verdicts` and those of the candidates on the line, each with `@`
+// and its place if it has one, `beyond` if any other verdict or place is set, `output` and the first `size` bytes of the output,
+// then `kept` if all bytes behind them are still 0xEE, else `changed`. No parent is 255, no rank 65535, as in `Answer`. Then
+// `why` and the reason at each candidate on the line and at the position equal to their number: `chosen`; V or V@I, barred by V,
+// at object I; B:K:V:A, beaten by candidate B on criterion K, with value V against A; `refused-N`, refused by N.
+// A line of another form has the answer NAME `unreadable`, or `unreadable` if it has no name. A line has 65,536 bytes at most,
+// its end among them; of a longer one each 65,536 bytes are taken for a line.
 #![tactic(auto)]
 
 use crate::case::{Case, MOST_ROOM};
@@ -29,10 +30,9 @@ const TURNS: u32 = 65536;
 // Calls on a case, and writes the answer and the reason at each candidate on its line and at the position behind them.
 fn run_case(out: &mut Stdout, given: &Case, lent: &[u8]) -> io::Result<()> {
     let mut sent = [0xEEu8; MOST_ROOM];
-    let candidates = &given.candidates;
     let answer = choice::call(
         given.own,
-        candidates,
+        &given.candidates,
         given.count,
         lent,
         &mut sent[..given.room],
@@ -40,8 +40,8 @@ fn run_case(out: &mut Stdout, given: &Case, lent: &[u8]) -> io::Result<()> {
     say::answer(out, &answer, given.count, &sent)?;
     write!(out, " why")?;
     for position in 0..=given.shown() {
-        let why = reason::explain(given.own, candidates, given.count, lent, position);
-        say::reason(out, &why)?;
+        let why = reason::ask(given.own, &given.candidates, given.count, lent, position);
+        say::reason(out, why)?;
     }
     writeln!(out)
 }
@@ -74,7 +74,7 @@ fn run_lines(out: &mut Stdout, text: &[u8]) -> io::Result<usize> {
     Ok(last.len())
 }
 
-// Runs all cases: reads on, and runs what has come. What no line's end comes behind, at the end of the input or of the buffer, is a line too.
+// Runs all cases: reads on, and runs what has come. At the end of the input or of the buffer a line needs no end.
 fn run(input: &mut Input, out: &mut Stdout) -> io::Result<()> {
     for _ in 0..TURNS {
         if input.fill() {

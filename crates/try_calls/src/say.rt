@@ -1,6 +1,6 @@
 // Writing the answer of a case, and the reasons.
 use model::Answer;
-use reason::{Kind, Reason};
+use reason::{Refused, Standing};
 use std::io;
 use std::io::{Stdout, Write};
 
@@ -64,26 +64,20 @@ fn output(out: &mut Stdout, sent: &[u8], size: usize) -> io::Result<()> {
     }
 }
 
-// The kinds of a reason by number, as C reads them; another is of one that is beaten.
-const REFUSED: u8 = Kind::Refused as u8;
-
-const CHOSEN: u8 = Kind::Chosen as u8;
-
-const BARRED: u8 = Kind::Barred as u8;
-
 // A reason, as one word.
-pub(crate) fn reason(out: &mut Stdout, why: &Reason) -> io::Result<()> {
-    let Reason {
-        parent,
-        criterion,
-        value,
-        against,
-        ..
-    } = *why;
-    match why.kind {
-        REFUSED => write!(out, " refused-{}", why.refusal),
-        CHOSEN => write!(out, " chosen"),
-        BARRED => verdict(out, why.number, why.place),
-        _ => write!(out, " {parent}:{criterion}:{value}:{against}"),
+pub(crate) fn reason(out: &mut Stdout, why: Result<Standing, Refused>) -> io::Result<()> {
+    match why {
+        Err(refused) => write!(out, " refused-{}", refused.number()),
+        Ok(Standing::Chosen) => write!(out, " chosen"),
+        Ok(Standing::Barred { number, place }) => verdict(out, number, place),
+        Ok(
+            Standing::Beaten {
+                parent,
+                difference: on,
+            },
+        ) => {
+            let criterion = on.criterion.number();
+            write!(out, " {parent}:{criterion}:{}:{}", on.value, on.against)
+        }
     }
 }

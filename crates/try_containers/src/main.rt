@@ -1,6 +1,6 @@
 // Reads lines of a name and the bytes of a container in hexadecimal, a space before each, and writes for each the name and what
-// reading the container answers: the bar and the index of its object, or the number of objects, the count of the HP metric, and the latency
-// and the ETX that are added up along the path, where they are not 0.
+// reading the container answers: the bar and the index of its object, or the number of objects, the count of the HP metric, and the
+// latency and the ETX that are added up along the path, where they are not 0.
 // A line of another form, or with a container of more than 512 bytes, has the answer NAME `unreadable`.
 // It takes the first 65,536 bytes of its input.
 #![tactic(auto)]

@@ -13,7 +13,7 @@ use Rattle.model.specs.declared.Candidate.{Candidate}
 use Rattle.model.specs.Number.{Quantity}
 use Rattle.std.specs.Prelude.{Some, None}
 use Rattle.model.specs.declared.Summary.{Summary}
-use Rattle.model.specs.declared.Verdict.TheVariants.{Barred}
+use Rattle.model.specs.Verdict.{Barred}
 use Rattle.model.specs.Number.{any_of, first_of}
 use Rattle.model.specs.Object.{Object}
 use Rattle.model.specs.Reading.{no_place, Reading, refused, well_formed}

@@ -9,7 +9,7 @@ use lib.ListN.{length, drop, get_or, length-drop, drop_of_length-le}
 use lib.Seq.{drop-cons, drop-drop, get_or-drop}
 use lib.Dec.{leb, ltb, eqb}
 use borrow.Author.Tests.{le-leb, lt-leb, leb-true}
-use Rattle.wire.specs.declared.options.Entry.TheVariants.{Into, Short, Nothing}
+use Rattle.wire.specs.Entry.{Into, Short, Nothing}
 use Rattle.wire.specs.Entry.{option_size, behind_by, entry_by, entry_up_to, entry_at}
 
 -- ---- the size of the option at the head

@@ -12,12 +12,17 @@ use Rattle.model.specs.Constraint.{from_first, summary, mandatory}
 use Rattle.model.proofs.FirstLaws.{first_snoc, index_none, index_snoc, index_le, standings_snoc, length-standings}
 use Rattle.model.proofs.ListLaws.{any_append}
 use Rattle.wire.specs.declared.gathered.Gathered.{Gathered}
-use Rattle.wire.specs.declared.container.Reading.TheVariants.{Refused, WellFormed}
+use Rattle.model.specs.declared.Summary.{Summary}
+use Rattle.model.specs.declared.verdicts.ObjectBar.{ObjectBar}
+use Rattle.model.specs.Bars.{object_bar_number}
+use Rattle.wire.specs.Reading.{Refused, WellFormed}
 use Rattle.wire.specs.Row.{has_bit}
 use Rattle.wire.specs.Seen.{seen_from, with_use, has_use, bar_by}
 use Rattle.wire.specs.Mandatory.{shows_mandatory}
-use Rattle.wire.specs.Gathered.{Gathers, untold, told_in, counted, told_by, whole_reading}
-use Rattle.wire.specs.Reading.{told_of, reading_of}
+use Rattle.wire.specs.declared.objects.Header.{Header}
+use Rattle.wire.specs.Step.{object_of}
+use Rattle.wire.specs.Gathered.{Gathers, With, untold, whole_reading}
+use Rattle.wire.specs.Reading.{reading_of}
 use Rattle.wire.proofs.SeenLaws.{seen_snoc, seen_exact}
 use Rattle.wire.proofs.ToldLaws.{told_snoc}
 
@@ -45,86 +50,43 @@ mandatory_with b c es a e q = rw (any_append mandatory es (a ∷ []), or-false (
 
 -- ---- what is gathered
 
--- one object more, as code makes it
-pub counted_bar : (g : Gathered) (n s f : ℕ) → (n ≡ 0 → ⊥)
-    → record { number = n; place = g.place; seen = g.seen; hops = g.hops; latency = g.latency; etx = g.etx; flags = f } ≡ counted g n s f
-counted_bar g zero s f h = absurd (h refl)
-counted_bar g (suc n) s f h = refl
-
-pub counted_none : (g : Gathered) (n s s' f : ℕ) → n ≡ 0 → s ≡ s'
-    → record { number = 0; place = g.place + 1; seen = s; hops = g.hops; latency = g.latency; etx = g.etx; flags = f } ≡ counted g n s' f
-counted_none g n s s' f e q = rw (e, q)
-
 pub gathers_none : Gathers untold []
 unfolding first_of index_of standings from_first shows_mandatory has_bit seen_from
-gathers_none = record { number = refl; place = refl; seen = λ e. refl; told = λ e. refl; shown = λ e. refl }
-
--- no more objects stand before the place than there are
-pub gathers_le : (g : Gathered) (es : List Object) → Gathers g es → g.place ≤ length es
-gathers_le g es w = rw (w.place, ← length-standings [] es) (index_le object_bar (standings [] es))
+gathers_none = record { clear = refl; count = refl; uses = refl; told = refl; shown = refl }
 
 module _ (g : Gathered) (es : List Object) (o : Object) (w : Gathers g es) where
-  -- behind a bar nothing changes
-  pub gathers_kept : (g.number ≡ 0 → ⊥) → Gathers g (es ++ (o ∷ []))
-  gathers_kept h =
-      let n : g.number ≡ bar_among (es ++ (o ∷ [])) = w.number ∙ sym (bar_snoc es o ∙ go (bar_among es) (λ e. h (w.number ∙ e))) in
-      record { number = n; place = w.place ∙ sym (place_snoc es o (λ e. h (n ∙ e))); seen = λ e. absurd (h e); told = λ e. absurd (h e); shown = λ e. absurd (h e) }
-    where
-      go : (a : ℕ) → (a ≡ 0 → ⊥) → first a (object_bar (record { earlier = es; object = o })) ≡ a
-      go zero h = absurd (h refl)
-      go (suc a) h = refl
+  -- a bar by the uses seen is one by the objects before
+  pub bar_seen : (n : ℕ) → n ≡ bar_by (has_use g.uses.0 o) o → object_bar (record { earlier = es; object = o }) ≡ n
+  bar_seen n e = (seen_exact es o).bar ∙ sym (e ∙ ap (λ x. bar_by (has_use x o) o) w.uses)
 
-  -- the bar that the bit gives
-  pub bar_seen : (n : ℕ) → g.number ≡ 0 → n ≡ bar_by (has_use g.seen o) o → n ≡ object_bar (record { earlier = es; object = o })
-  bar_seen n z e = e ∙ ap (λ x. bar_by (has_use x o) o) (w.seen z) ∙ sym (seen_exact es o).bar
+  -- one object more, without a bar
+  pub gathers_more : (h : Header) (t : Summary) (r : Gathered) → object_bar (record { earlier = es; object = o }) ≡ 0 → With g h t r
+      → with_use g.uses.0 (object_of h []) ≡ with_use g.uses.0 o → mandatory (object_of h []) ≡ mandatory o → t ≡ summary (es ++ (o ∷ [])) → Gathers r (es ++ (o ∷ []))
+  gathers_more h t r e v u m s = record {
+    clear = bar_snoc es o ∙ rw (w.clear) e;
+    count = v.count ∙ rw (w.count, length-append es (o ∷ [])) refl;
+    uses = v.uses ∙ u ∙ ap (λ n. with_use n o) w.uses ∙ sym (seen_snoc 0 es o);
+    told = v.summary ∙ s;
+    shown = mandatory_with (shows_mandatory g.flags.0) (shows_mandatory r.flags.0) es o w.shown (v.flags ∙ rw m);
+  }
 
-  -- the first bar
-  gathers_bar : (n f : ℕ) → g.number ≡ 0 → n ≡ object_bar (record { earlier = es; object = o }) → (n ≡ 0 → ⊥)
-      → Gathers (record { number = n; place = g.place; seen = g.seen; hops = g.hops; latency = g.latency; etx = g.etx; flags = f }) (es ++ (o ∷ []))
-  gathers_bar n f z e h =
-      let q : n ≡ bar_among (es ++ (o ∷ [])) = e ∙ sym (bar_snoc es o ∙ rw (← w.number, z)) in
-      record { number = q; place = w.place ∙ sym (place_snoc es o (λ x. h (q ∙ x))); seen = λ x. absurd (h x); told = λ x. absurd (h x); shown = λ x. absurd (h x) }
+-- the first bar stays the first, whatever objects stand behind
+first_behind : (rest es : List Object) (n : ℕ) → bar_among es ≡ suc n → (bar_among (es ++ rest) ≡ suc n) × (index_among (es ++ rest) ≡ index_among es)
+first_behind [] es n e = rw (append-nil es) (e, refl)
+first_behind (o ∷ rest) es n e =
+    let q : bar_among (es ++ (o ∷ [])) ≡ suc n = bar_snoc es o ∙ rw e in
+    let p = place_snoc es o (λ z. omega (arith, q, z)) in
+    let (a, b) = first_behind rest (es ++ (o ∷ [])) n q in
+    rw (← append_assoc es (o ∷ []) rest) (a, b ∙ p)
 
-  module _ (f : ℕ) (a : shows_mandatory f ≡ shows_mandatory g.flags || mandatory o) (z : g.number ≡ 0) where
-    -- no bar
-    gathers_more : (h l x : ℕ) → 0 ≡ object_bar (record { earlier = es; object = o }) → record { hops = h; latency = l; etx = x } ≡ told_of (summary (es ++ (o ∷ [])))
-        → Gathers (record { number = 0; place = g.place + 1; seen = with_use g.seen o; hops = h; latency = l; etx = x; flags = f }) (es ++ (o ∷ []))
-    gathers_more h l x e t =
-        let n : bar_among (es ++ (o ∷ [])) ≡ 0 = bar_snoc es o ∙ rw (← w.number, z) (sym e) in
-        let c : g.place ≡ length es = w.place ∙ place_none es (sym w.number ∙ z) in
-        record {
-          number = sym n;
-          place = rw (c, place_none (es ++ (o ∷ [])) n, length-append es (o ∷ []));
-          seen = λ q. ap (λ n. with_use n o) (w.seen z) ∙ sym (seen_snoc 0 es o);
-          told = λ q. t;
-          shown = λ q. mandatory_with (shows_mandatory g.flags) (shows_mandatory f) es o (w.shown z) a;
-        }
+-- an object with a bar, behind others without one, gives the reading
+pub gathers_refused : (es rest : List Object) (o : Object) (n : ℕ) → bar_among es ≡ 0 → object_bar (record { earlier = es; object = o }) ≡ suc n
+    → Refused (suc n) (length es) ≡ reading_of (whole_reading (es ++ (o ∷ rest)))
+gathers_refused es rest o n z e =
+    let q : bar_among (es ++ (o ∷ [])) ≡ suc n = bar_snoc es o ∙ rw z e in
+    let (a, b) = first_behind rest (es ++ (o ∷ [])) n q in
+    let p : index_among (es ++ (o ∷ [])) ≡ length es = place_snoc es o (λ y. omega (arith, q, y)) ∙ place_none es z in
+    rw (← append_assoc es (o ∷ []) rest, a, b, p) refl
 
-    -- a bar, or none at an object that tells nothing
-    pub gathers_counted : (n : ℕ) → n ≡ object_bar (record { earlier = es; object = o }) → (n ≡ 0 → told_of (summary es) ≡ told_of (summary (es ++ (o ∷ []))))
-        → Gathers (counted g n (with_use g.seen o) f) (es ++ (o ∷ []))
-    gathers_counted zero e t = gathers_more g.hops g.latency g.etx e (w.told z ∙ t refl)
-    gathers_counted (suc n) e t = gathers_bar (suc n) f z e (λ q. omega arith)
-
-    -- no bar at one that may
-    pub gathers_told : 0 ≡ object_bar (record { earlier = es; object = o }) → any_of (same_use o) es ≡ false
-        → Gathers (told_by (counted g 0 (with_use g.seen o) f) o) (es ++ (o ∷ []))
-    gathers_told e n = gathers_more _ _ _ e (told_snoc es o n (counted g 0 (with_use g.seen o) f) (w.told z))
-
--- a bar stays the first, whatever objects stand behind
-pub gathers_behind : (g : Gathered) (rest es : List Object) → Gathers g es → (g.number ≡ 0 → ⊥) → Gathers g (es ++ rest)
-gathers_behind g [] es w h = rw (append-nil es) w
-gathers_behind g (o ∷ rest) es w h = subst (λ (os : List Object). Gathers g os) (append_assoc es (o ∷ []) rest) (gathers_behind g rest (es ++ (o ∷ [])) (gathers_kept g es o w h) h)
-
--- what is gathered of all objects gives the reading
-pub gathers_refused : (g : Gathered) (os : List Object) → Gathers g os → (g.number ≡ 0 → ⊥) → Refused g.number g.place ≡ reading_of (whole_reading os)
-gathers_refused g os w h = rw (w.number, w.place) (go (bar_among os) (λ e. h (w.number ∙ e)))
-  where
-    go : (n : ℕ) → (n ≡ 0 → ⊥) → Refused n (index_among os) ≡ reading_of (read_as n (index_among os) os)
-    go zero h = absurd (h refl)
-    go (suc n) h = refl
-
-pub gathers_whole : (g : Gathered) (os : List Object) (m : Bool) → Gathers g os → g.number ≡ 0 → m ≡ shows_mandatory g.flags → WellFormed g.place m (told_in g) ≡ reading_of (whole_reading os)
-gathers_whole g os m w z e =
-    let n : bar_among os ≡ 0 = sym w.number ∙ z in
-    rw (w.place, e, w.shown z, w.told z, place_none os n, n)
+pub gathers_whole : (g : Gathered) (os : List Object) → Gathers g os → WellFormed g.count (shows_mandatory g.flags.0) g.summary ≡ reading_of (whole_reading os)
+gathers_whole g os w = rw (w.count, w.shown, w.told, w.clear)

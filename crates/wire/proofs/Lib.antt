@@ -2,10 +2,13 @@ pub mod HeaderLaws
 pub mod RowLaws
 pub mod NumberLaws
 pub mod StepLaws
+pub mod FrontLaws
 pub mod WalkLaws
 pub mod EntryLaws
 pub mod StartLaws
 pub mod RunWalkLaws
+pub mod OptionLaws
+pub mod PassLaws
 pub mod FrameLaws
 pub mod TlvLaws
 pub mod BodyLaws

@@ -7,7 +7,7 @@ use lib.Dec.{eqb}
 use lib.Bits.{bit_or}
 use borrow.Author.Tests.{eq-eqb, ne_eqb, eqb-true, eqb-false}
 use Rattle.model.specs.Number.{any_of}
-use Rattle.model.specs.Object.{Object}
+use Rattle.model.specs.Object.{Object, is_constraint, role_of}
 use Rattle.model.specs.Constraint.{mandatory}
 use Rattle.model.proofs.NumberLaws.{below_all}
 use Rattle.model.proofs.TypeLaws.{beq-true}
@@ -31,6 +31,10 @@ by_flags f = go (eqb (f / 2 % 2) 1) (eqb (f % 2) 1) refl refl
         two : (f : ℕ) → f / 2 % 2 ≡ 1 → (f % 2 ≡ 1 → ⊥) → f % 32 % 4 ≡ 2
         two f x y = omega arith
     go false o p q = let x = eqb-false (f / 2 % 2) 1 p in ne_eqb (f % 32 % 4) 2 (λ e. x (omega arith))
+
+-- a mandatory constraint by its flags
+pub mandatory_by : (f m : ℕ) → eqb (f % 4) 2 ≡ is_constraint (role_of f m) && not (eqb (f % 2) 1)
+mandatory_by f m = let e : f % 4 ≡ f % 32 % 4 = omega arith in rw e (by_flags f ∙ ap (λ b. b && not (eqb (f % 2) 1)) (constraint_by f m))
 
 -- one object more
 pub shows_with : (n : ℕ) (o : Object) → shows_mandatory (bit_or n ((1 * 2 ^ (o.flags % 32)) % 4294967296)) ≡ shows_mandatory n || mandatory o

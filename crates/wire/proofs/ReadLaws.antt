@@ -1,100 +1,101 @@
--- The reading pass at a cursor of a run, and where it ends.
-use mathlib.Core.Path.{◌≡◌, refl, ap}
-use Prim.Native.Nat.{ℕ, ◌+◌, ◌^◌, ◌≤◌, ◌<◌}
-use native.Mathlib.Omega.{arith}
-use mathlib.Core.Bool.{true, false, true≢false}
-use mathlib.Core.List.{List, [], ◌∷◌, ◌++◌}
-use mathlib.Core.Option.{Option, none, some}
-use lib.ListN.{length, take, get_or, length-append}
-use lib.Seq.{length-take-le}
+-- The reading pass among a run's objects, and where it ends.
+use Rattle.std.proofs.Common.{◌≡◌, refl, ap, sym, ◌∙◌, ℕ, suc, ◌+◌, ◌≤◌, ◌<◌, true, false, List, [], ◌∷◌, ◌++◌, length, get_or, arith}
+use Rattle.std.specs.Prelude.{Err, Ok}
+use Rattle.std.proofs.Math.Option.{Option, none, some}
+use mathlib.Core.Bool.{true≢false}
+use mathlib.Core.List.{append_assoc}
+use lib.ListN.{length-append}
+use Rattle.model.specs.declared.verdicts.ObjectBar.{ObjectBar}
+use Rattle.model.specs.declared.verdicts.ObjectBar.TheVariants as at
+use Rattle.model.specs.Bars.{object_bar_number}
 use Rattle.model.specs.Object.{Object, behind}
-use Rattle.model.specs.Reading.{is_none, misframed, read_objects, reading}
-use Rattle.model.specs.Run.{object_cut, ninth_container, run_objects, read_run}
+use Rattle.model.specs.Reading.{is_none, misframed, object_bar, read_objects, reading}
+use Rattle.model.specs.Run.{object_cut, option_cut, ninth_container, run_objects, read_run}
+use Rattle.model.specs.Number.{first_of}
+use Rattle.model.specs.Object.{standings}
 use Rattle.model.proofs.RunLaws.{few_objects, one_container}
-use Rattle.wire.specs.declared.objects.Header.{Header}
-use Rattle.wire.specs.declared.objects.Cursor.{Cursor}
-use Rattle.wire.specs.declared.objects.Step.TheVariants.{Found, End}
-use Rattle.wire.specs.declared.options.Entry.TheVariants.{Into, Nothing}
-use Rattle.wire.specs.declared.options.Start.{Start}
 use Rattle.wire.specs.declared.gathered.Gathered.{Gathered}
-use Rattle.wire.specs.declared.container.Reading.{Reading}
-use Rattle.wire.specs.declared.container.Reading.TheVariants.{Refused}
-use Rattle.wire.specs.Step.{step_at, object_in}
-use Rattle.wire.specs.Entry.{entry_at}
-use Rattle.wire.specs.Start.{start_of}
-use Rattle.wire.specs.Walk.{objects_from, RunWalked}
-use Rattle.wire.specs.Gathered.{Gathers, untold, whole_reading, barred_by}
-use Rattle.wire.specs.Reading.{reading_of}
-use Rattle.wire.proofs.StepLaws.{found}
-use Rattle.wire.proofs.RunWalkLaws.{run_first, run_found, run_enter, run_end}
-use Rattle.wire.proofs.GatherLaws.{gathers_none, gathers_le, gathers_behind, gathers_refused}
+use Rattle.wire.specs.Front.{front, left, ends_at}
+use Rattle.wire.specs.Options.{data_front, options_left}
+use Rattle.wire.specs.Gathered.{Gathers, untold, whole_reading, bars_first}
+use Rattle.wire.specs.Mandatory.{shows_mandatory}
+use Rattle.wire.specs.Reading.{Refused, WellFormed, reading_of, reading_in}
+use Rattle.wire.proofs.PassLaws.{Between, Inside, at_start, into, onward, out, cut_inside, all_done}
+use Rattle.wire.proofs.GatherLaws.{gathers_none, gathers_refused, gathers_whole}
 
--- the objects before a cursor, none of which has a bar, and what is gathered of them
-pub record Pass (run : List ℕ) (end : ℕ) (p : Cursor) (g : Gathered) : Type 0 where
+-- between containers, and in one: the objects before, none of which has a bar, and what is gathered of them
+pub record AtPass (run rest : List ℕ) (g : Gathered) : Type 0 where
   pub earlier : List Object
-  pub walked : RunWalked run end p earlier
+  pub between : Between run rest earlier
   pub gathers : Gathers g earlier
-  pub clear : g.number ≡ 0
 
-pub pass_first : (run : List ℕ) (s : Start) (g : Gathered) → s ≡ start_of run → g ≡ untold → Pass run s.end s.cursor g
-pass_first run s g e q = rw q (record { earlier = []; walked = run_first run s e; gathers = gathers_none; clear = refl })
+pub record InPass (run rest bytes : List ℕ) (g : Gathered) : Type 0 where
+  pub earlier : List Object
+  pub inside : Inside run rest bytes earlier
+  pub gathers : Gathers g earlier
 
--- where objects are whole, the index of the first with a bar fits
-fits : (run : List ℕ) (g : Gathered) (es : List Object) (x : Option (List Object)) → Gathers g es → run_objects run ≡ behind es x
-    → ((i : ℕ) → get_or run i 0 ≤ 255) → ninth_container run ≡ false → object_cut run ≡ false → g.place < 65536
-fits run g es none v e b f c = absurd (true≢false (rw e at c))
-fits run g es (some rest) v e b f c =
-    let l = few_objects run (es ++ rest) b f e in
-    omega (arith, gathers_le g es v, length-append es rest)
+pub pass_start : (run : List ℕ) (g : Gathered) → g ≡ untold → AtPass run run g
+pass_start run g e = rw e (record { earlier = []; between = at_start run; gathers = gathers_none })
 
-module _ (run : List ℕ) (end : ℕ) (p : Cursor) (g : Gathered) (w : Pass run end p g) where
-  module _ {h : Header} {start stop : ℕ} {n : Cursor} (e : step_at (take end run) p ≡ Found h start stop n) where
-    -- the number of objects is far from the limit of its type
-    pub pass_room : length run < 2 ^ 64 → g.place < 2 ^ 62
-    pass_room l =
-        let f = found (take end run) p e in
-        omega (arith, gathers_le g w.earlier w.gathers, w.walked.few, length-take-le end run w.walked.inside.1, f.start_at, f.end_at, f.within)
+pub pass_into : (run s t d : List ℕ) (g : Gathered) → AtPass run s g → data_front s ≡ d ∷ data_front t → options_left s ≡ options_left t → InPass run t d g
+pass_into run s t d g w e l = record { earlier = w.earlier; inside = into run s t d w.earlier w.between e l; gathers = w.gathers }
 
-    module _ (r : Gathered) (v : (es : List Object) → Gathers g es → Gathers r (es ++ (object_in (take end run) h start stop ∷ []))) where
-      after : RunWalked run end n (w.earlier ++ (object_in (take end run) h start stop ∷ []))
-      after = run_found run end p w.earlier w.walked e
+pub pass_out : (run rest s t : List ℕ) (g : Gathered) → InPass run rest s g → front s ≡ [] → left s ≡ t → ends_at t ≡ true → AtPass run rest g
+pass_out run rest s t g w e l d = record { earlier = w.earlier; between = out run rest s t w.earlier w.inside e l d; gathers = w.gathers }
 
-      -- one object more
-      pub pass_found : r.number ≡ 0 → Pass run end n r
-      pass_found z = record { earlier = _; walked = after; gathers = v w.earlier w.gathers; clear = z }
+-- an object that is cut short is bar 14
+pub pass_cut : (run rest s t : List ℕ) (g : Gathered) → InPass run rest s g → left s ≡ t → ends_at t ≡ false → Refused 14 65535 ≡ reading_of (read_objects (run_objects run))
+pass_cut run rest s t g w l d = rw (cut_inside run rest s t w.earlier w.inside l d)
 
-      -- one object more, which has a bar
-      pub pass_barred : (r.number ≡ 0 → ⊥) → barred_by (object_cut run) r.number r.place ≡ reading_of (read_objects (run_objects run))
-      pass_barred z = rw after.so_far (go _ (v w.earlier w.gathers) (objects_from run end n))
-        where
-          go : (es : List Object) → Gathers r es → (x : Option (List Object)) → barred_by (is_none (behind es x)) r.number r.place ≡ reading_of (read_objects (behind es x))
-          go es v none = refl
-          go es v (some rest) = gathers_refused r (es ++ rest) (gathers_behind r rest es v z) z
+-- the reading of a bar at an object
+barred_reading : (es rest : List Object) (o : Object) (b : ObjectBar) → first_of object_bar (standings [] es) ≡ 0 → object_bar (record { earlier = es; object = o }) ≡ object_bar_number b
+    → Refused (object_bar_number b) (length es) ≡ reading_of (whole_reading (es ++ (o ∷ rest)))
+barred_reading es rest o at.Body z e = gathers_refused es rest o 14 z e
+barred_reading es rest o at.Repeat z e = gathers_refused es rest o 15 z e
+barred_reading es rest o at.Recorded z e = gathers_refused es rest o 16 z e
+barred_reading es rest o at.Unknown z e = gathers_refused es rest o 17 z e
+barred_reading es rest o at.Unmet z e = gathers_refused es rest o 18 z e
 
-      pub pass_fits : ((i : ℕ) → get_or run i 0 ≤ 255) → ninth_container run ≡ false → object_cut run ≡ false → r.place < 65536
-      pass_fits b f c = fits run r _ (objects_from run end n) (v w.earlier w.gathers) after.so_far b f c
+-- one object more
+module _ (run rest s t : List ℕ) (o : Object) (g : Gathered) (w : InPass run rest s g) (e : front s ≡ o ∷ front t) (l : left s ≡ left t) where
+  after : Inside run rest t (w.earlier ++ (o ∷ []))
+  after = onward run rest s t o w.earlier w.inside e l
 
-  -- the next container
-  pub pass_enter : {c : Cursor} {e : ℕ} → step_at (take end run) p ≡ End → entry_at run end ≡ Into c e → Pass run e c g
-  pass_enter d q = record { earlier = w.earlier; walked = run_enter run end p w.earlier w.walked d q; gathers = w.gathers; clear = w.clear }
+  -- there is room for its number
+  pub pass_room : length run < 18446744073709551616 → g.count < 18446744073709551615
+  pass_room b = let q = after.room in omega (arith, w.gathers.count, q, length-append w.earlier (o ∷ []))
 
-  -- all objects
-  module _ (d : step_at (take end run) p ≡ End) (q : entry_at run end ≡ Nothing) where
-    all : run_objects run ≡ some w.earlier
-    all = run_end run end p w.earlier w.walked d q
+  pub pass_onward : (h : Gathered) → Gathers h (w.earlier ++ (o ∷ [])) → InPass run rest t h
+  pass_onward h v = record { earlier = _; inside = after; gathers = v }
 
-    pub read_whole : (r : Reading) → ((os : List Object) → Gathers g os → r ≡ reading_of (whole_reading os)) → r ≡ reading_of (read_objects (run_objects run))
-    read_whole r f = rw all (f w.earlier w.gathers)
+  -- it has a bar
+  module _ (b : ObjectBar) (n : ℕ) (v : object_bar (record { earlier = w.earlier; object = o }) ≡ object_bar_number b) (c : n ≡ g.count) where
+    pub pass_fits : ((i : ℕ) → get_or run i 0 ≤ 255) → ninth_container run ≡ false → object_cut run ≡ false → n < 65536
+    pass_fits f h z = go _ after.so_far
+      where
+        go : (x : Option (List Object)) → run_objects run ≡ behind (w.earlier ++ (o ∷ [])) x → n < 65536
+        go none q = absurd (true≢false (rw q at z))
+        go (some os) q =
+            let m = few_objects run ((w.earlier ++ (o ∷ [])) ++ os) f h q in
+            omega (arith, c, w.gathers.count, m, length-append (w.earlier ++ (o ∷ [])) os, length-append w.earlier (o ∷ []))
 
-    pub read_fits : ((i : ℕ) → get_or run i 0 ≤ 255) → ninth_container run ≡ false → g.place < 65536
-    read_fits b f = omega (arith, few_objects run w.earlier b f all, gathers_le g w.earlier w.gathers)
+    pub pass_barred : reading_in (Err (bars_first (object_cut run) b n)) ≡ reading_of (read_objects (run_objects run))
+    pass_barred = rw after.so_far (go _)
+      where
+        go : (x : Option (List Object)) → reading_in (Err (bars_first (is_none (behind (w.earlier ++ (o ∷ [])) x)) b n)) ≡ reading_of (read_objects (behind (w.earlier ++ (o ∷ [])) x))
+        go none = refl
+        go (some os) = rw (c, w.gathers.count, append_assoc w.earlier (o ∷ []) os) (barred_reading w.earlier os o b w.gathers.clear v)
 
--- bar 14
-pub read_14 : (run : List ℕ) (n k : ℕ) → run_objects run ≡ none → barred_by (object_cut run) n k ≡ reading_of (read_objects (run_objects run))
-read_14 run n k e = rw e
+-- all objects
+module _ (run s t : List ℕ) (g : Gathered) (w : AtPass run s g) (e : data_front s ≡ []) (l : options_left s ≡ t) (c : option_cut run ≡ false) where
+  all : run_objects run ≡ some w.earlier
+  all = all_done run s t w.earlier w.between e l c
 
-pub no_place : (run : List ℕ) (k : ℕ) → run_objects run ≡ none → object_cut run ≡ false → k < 65536
-no_place run k e c = absurd (true≢false (rw e at c))
+  pub pass_count : ((i : ℕ) → get_or run i 0 ≤ 255) → ninth_container run ≡ false → g.count < 65536
+  pass_count f h = let m = few_objects run w.earlier f h all in omega (arith, m, w.gathers.count)
+
+  pub pass_whole : WellFormed g.count (shows_mandatory g.flags.0) g.summary ≡ reading_of (read_objects (run_objects run))
+  pass_whole = rw all (gathers_whole g w.earlier w.gathers)
 
 -- ---- a lone container
 

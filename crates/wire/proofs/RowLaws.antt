@@ -3,20 +3,22 @@ use mathlib.Core.Path.{◌≡◌, refl, sym, ◌∙◌}
 use Prim.Native.Nat.{ℕ, zero, suc, ◌/◌, ◌%◌, ◌≤◌, ◌<◌, ◌^◌}
 use native.Mathlib.Nat.{div-eq_of_lt, pow-suc}
 use native.Mathlib.Omega.{arith}
-use mathlib.Core.Bool.{Bool, true, false, beq, ◌&&◌, not}
+use mathlib.Core.Bool.{Bool, true, false, beq, ◌&&◌, not, false≢true}
 use mathlib.Core.List.{List, [], ◌∷◌}
 use lib.Dec.{eqb, leb, ltb}
 use lib.Pow.{pow_pos}
 use borrow.Author.Tests.{leb-true, ltb-true, ltb-false, ne_eqb, not-true}
 use Rattle.model.specs.Number.{any_of}
-use Rattle.model.specs.Object.{Kind, kind_of, known}
+use Rattle.model.specs.Object.{Kind, unknown, lql, colour, node, scalar, nsa, ne, hp, throughput, latency, etx, kind_of, known}
 use Rattle.model.specs.Table.{row, allowed}
 use Rattle.model.specs.Cut.{may_have_tlvs}
 use Rattle.model.proofs.BoolLaws.{both, neither}
 use Rattle.model.proofs.NumberLaws.{all_below, below_all}
 use Rattle.model.proofs.TypeLaws.{beq-true, every_kind, by_type, known_types, tlv_types}
-use Rattle.wire.specs.declared.table.Row.{Row}
-use Rattle.wire.specs.Row.{has_bit, mask_of, row_for, byte_for, MasksExact}
+use Rattle.wire.specs.declared.metric_type.MetricType.{MetricType}
+use Rattle.wire.specs.declared.metric_type.MetricType.TheVariants as code
+use Rattle.wire.specs.MetricType.{kind_in}
+use Rattle.wire.specs.Row.{has_bit, mask_of, row_for, MasksExact}
 
 -- a type between two numbers
 pub within : (t n : ℕ) → leb 1 t && leb t n ≡ true → (1 ≤ t) × (t ≤ n)
@@ -26,17 +28,63 @@ within t n e = let (a, b) = both (leb 1 t) (leb t n) e in (leb-true 1 t a, leb-t
 pub known_within : (t : ℕ) → known (kind_of t) ≡ true → (1 ≤ t) × (t ≤ 8)
 known_within t k = within t 8 (sym (known_types t) ∙ k)
 
--- the row that two bytes tell
-abbrev told : (tlvs : Bool) (fixed series : ℕ) → Row
-told t f s = record { base = f % 16; tlvs = t; records = eqb (s / 128) 1; lead = s / 16 % 8; size = s % 16; allows = f / 16 }
+-- ---- the type that a byte names
 
--- the bytes of a type tell its row
-pub row_bytes : (t : ℕ) → told (may_have_tlvs t) (byte_for 0x0372027474126262 t) (byte_for 0x9282918484008200 t) ≡ row_for t
-unfolding row_for kind_of
-row_bytes t = rw (← tlv_types t) (by_type Tells refl refl refl refl refl refl refl refl refl (λ t p. rw p.kind) t)
+-- the number of a known kind's type
+abbrev number_of_kind : Kind → ℕ
+number_of_kind unknown = 0
+number_of_kind (node nsa) = 1
+number_of_kind (node ne) = 2
+number_of_kind (node hp) = 3
+number_of_kind (scalar throughput) = 4
+number_of_kind (scalar latency) = 5
+number_of_kind lql = 6
+number_of_kind (scalar etx) = 7
+number_of_kind colour = 8
+
+-- a type by its kind
+pub type_by : (t : ℕ) (k : Kind) → k ≡ kind_of t → known k ≡ true → t ≡ number_of_kind k
+unfolding kind_of
+type_by t k e h = rw e (by_type Numbered (λ h. absurd (false≢true h)) (λ h. refl) (λ h. refl) (λ h. refl) (λ h. refl) (λ h. refl) (λ h. refl) (λ h. refl) (λ h. refl) (λ t p h. absurd (false≢true (rw p.kind at h))) t (rw e at h))
   where
-    Tells : ℕ → Type 0
-    Tells t = told (row (kind_of t)).tlvs (byte_for 0x0372027474126262 t) (byte_for 0x9282918484008200 t) ≡ row_for t
+    Numbered : ℕ → Type 0
+    Numbered t = known (kind_of t) ≡ true → t ≡ number_of_kind (kind_of t)
+
+-- the type of a kind in the enum of code
+abbrev type_in : Kind → MetricType
+type_in unknown = code.Unknown
+type_in (node nsa) = code.NodeState
+type_in (node ne) = code.NodeEnergy
+type_in (node hp) = code.HopCount
+type_in (scalar throughput) = code.Throughput
+type_in (scalar latency) = code.Latency
+type_in lql = code.LinkQuality
+type_in (scalar etx) = code.Etx
+type_in colour = code.LinkColour
+
+of_kind : (m : MetricType) → type_in (kind_in m) ≡ m
+of_kind code.Unknown = refl
+of_kind code.NodeState = refl
+of_kind code.NodeEnergy = refl
+of_kind code.HopCount = refl
+of_kind code.Throughput = refl
+of_kind code.Latency = refl
+of_kind code.LinkQuality = refl
+of_kind code.Etx = refl
+of_kind code.LinkColour = refl
+
+-- a type by its number
+pub type_of_3 : (m : MetricType) (t : ℕ) → kind_in m ≡ kind_of t → t ≡ 3 → m ≡ code.HopCount
+unfolding kind_of
+type_of_3 m t e z = sym (of_kind m) ∙ rw (e, z)
+
+pub type_of_5 : (m : MetricType) (t : ℕ) → kind_in m ≡ kind_of t → t ≡ 5 → m ≡ code.Latency
+unfolding kind_of
+type_of_5 m t e z = sym (of_kind m) ∙ rw (e, z)
+
+pub type_of_7 : (m : MetricType) (t : ℕ) → kind_in m ≡ kind_of t → t ≡ 7 → m ≡ code.Etx
+unfolding kind_of
+type_of_7 m t e z = sym (of_kind m) ∙ rw (e, z)
 
 -- ---- the masks
 

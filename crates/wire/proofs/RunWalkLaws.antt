@@ -18,12 +18,12 @@ use Rattle.model.proofs.BoolLaws.{both}
 use Rattle.model.proofs.RunLaws.{options_pad, options_step, joined_nil, framed_run}
 use Rattle.model.proofs.ReadingLaws.{framed}
 use Rattle.wire.specs.declared.objects.Header.{Header}
-use Rattle.wire.specs.declared.objects.Cursor.{Cursor}
-use Rattle.wire.specs.declared.objects.Step.{Step}
-use Rattle.wire.specs.declared.objects.Step.TheVariants.{Found, CutShort, End}
-use Rattle.wire.specs.declared.options.Entry.{Entry}
-use Rattle.wire.specs.declared.options.Entry.TheVariants.{Into, Short, Nothing}
-use Rattle.wire.specs.declared.options.Start.{Start}
+use Rattle.wire.specs.Step.{Cursor}
+use Rattle.wire.specs.Step.{Step}
+use Rattle.wire.specs.Step.{Found, CutShort, End}
+use Rattle.wire.specs.Entry.{Entry}
+use Rattle.wire.specs.Entry.{Into, Short, Nothing}
+use Rattle.wire.specs.Start.{Start}
 use Rattle.wire.specs.Step.{first_cursor, step_at, object_in}
 use Rattle.wire.specs.Entry.{option_size, entry_by, entry_at}
 use Rattle.wire.specs.Start.{start_of}

@@ -5,7 +5,7 @@ use mathlib.Core.Bool.{true, false}
 use mathlib.Core.List.{List}
 use lib.ListN.{length}
 use Rattle.model.specs.Reading.{misframed}
-use Rattle.wire.specs.declared.objects.Cursor.{Cursor}
+use Rattle.wire.specs.Step.{Cursor}
 use Rattle.wire.specs.Step.{first_cursor}
 use Rattle.wire.specs.Start.{start_of}
 

@@ -12,9 +12,9 @@ use borrow.Author.Tests.{lt-leb, leb-true, leb-false, ltb-true, ltb-false}
 use Rattle.model.specs.Object.{Object, before, split_up_to, split, join, bytes_of, behind}
 use Rattle.model.proofs.ObjectLaws.{split_step, split-append}
 use Rattle.wire.specs.declared.objects.Header.{Header}
-use Rattle.wire.specs.declared.objects.Cursor.{Cursor}
-use Rattle.wire.specs.declared.objects.Step.{Step}
-use Rattle.wire.specs.declared.objects.Step.TheVariants.{Found, CutShort, End}
+use Rattle.wire.specs.Step.{Cursor}
+use Rattle.wire.specs.Step.{Step}
+use Rattle.wire.specs.Step.{Found, CutShort, End}
 use Rattle.wire.specs.Step.{header_at, object_at, step_at, object_in}
 
 -- ---- what a step says

@@ -1,12 +1,13 @@
 -- What an object behind others tells the tests of constraints, by the tests that code makes.
-use mathlib.Core.Path.{◌≡◌, refl, ap}
+use mathlib.Core.Path.{◌≡◌, refl, sym, ◌∙◌}
 use Prim.Native.Nat.{ℕ, suc}
+use native.Mathlib.Omega.{arith}
 use mathlib.Core.Bool.{Bool, true, false, cond, ◌&&◌, and-false, true≢false}
 use mathlib.Core.List.{List, [], ◌∷◌, ◌++◌}
 use lib.ListN.{get_or}
 use lib.Dec.{eqb}
 use borrow.Author.Tests.{eq-eqb}
-use Rattle.std.specs.Prelude.{Some, None}
+use Rattle.std.specs.Prelude.{Option, Some, None}
 use Rattle.model.specs.Number.{any_of, number}
 use Rattle.model.specs.Object.{Object, field_a, Scalar, latency, etx, type_of, kind_of, known, kind, constraint, recorded, aggregated, role, is_aggregated, is_hp}
 use Rattle.model.specs.Table.{row}
@@ -14,10 +15,8 @@ use Rattle.model.specs.Reading.{cannot_be, same_use}
 use Rattle.model.specs.Constraint.{hop_count, counts_hops, adds_up, path_value, summary}
 use Rattle.model.proofs.TypeLaws.{hp_type, no_hops, no_adds, unknown_hops, unknown_adds}
 use Rattle.model.proofs.SummaryLaws.{from_same, from_snoc, hops_use, adds_use}
-use Rattle.wire.specs.declared.container.Told.{Told}
-use Rattle.wire.specs.declared.gathered.Gathered.{Gathered}
-use Rattle.wire.specs.Reading.{hops_of, told_of}
-use Rattle.wire.specs.Gathered.{told_in, told_by}
+use Rattle.model.specs.declared.Summary.{Summary}
+use Rattle.wire.specs.Gathered.{told_by}
 
 -- ---- objects that tell nothing
 
@@ -27,7 +26,7 @@ not_added s o e = rw (e, and-false (eqb o.type (type_of s)))
 
 -- behind such an object, what is told is as before
 module _ (es : List Object) (o : Object) where
-  silent_same : counts_hops o ≡ false → adds_up latency o ≡ false → adds_up etx o ≡ false → told_of (summary es) ≡ told_of (summary (es ++ (o ∷ [])))
+  silent_same : counts_hops o ≡ false → adds_up latency o ≡ false → adds_up etx o ≡ false → summary es ≡ summary (es ++ (o ∷ []))
   silent_same h l x =
       rw (
         from_same None counts_hops (λ o. Some (get_or o.body 1 0)) es o h,
@@ -35,58 +34,67 @@ module _ (es : List Object) (o : Object) where
         from_same 0 (adds_up etx) (λ o. number o.body) es o x,
       )
 
-  pub unknown_same : known (kind o) ≡ false → told_of (summary es) ≡ told_of (summary (es ++ (o ∷ [])))
+  pub unknown_same : known (kind o) ≡ false → summary es ≡ summary (es ++ (o ∷ []))
   unknown_same u = silent_same (unknown_hops o u) (unknown_adds latency o u) (unknown_adds etx o u)
 
-  pub constraint_same : role o ≡ constraint → told_of (summary es) ≡ told_of (summary (es ++ (o ∷ [])))
-  constraint_same r = silent_same (rw (r, and-false (is_hp (kind o)))) (not_added latency o (rw r)) (not_added etx o (rw r))
-
-  -- HP is never recorded
-  pub recorded_same : role o ≡ recorded → cannot_be (role o) (row (kind o)) ≡ false → told_of (summary es) ≡ told_of (summary (es ++ (o ∷ [])))
-  unfolding kind_of
-  recorded_same r u = silent_same (no_hops o (λ q. true≢false (rw (r, q) at u))) (not_added latency o (rw r)) (not_added etx o (rw r))
-
   -- with an object whose use was not seen
-  pub told_snoc : any_of (same_use o) es ≡ false → (g : Gathered) → told_in g ≡ told_of (summary es) → told_in (told_by g o) ≡ told_of (summary (es ++ (o ∷ [])))
-  told_snoc f g e =
-      let h : g.hops ≡ hops_of (hop_count es) = ap (λ (t : Told). t.hops) e in
-      let l : g.latency ≡ path_value latency es = ap (λ (t : Told). t.latency) e in
-      let x : g.etx ≡ path_value etx es = ap (λ (t : Told). t.etx) e in
+  pub told_snoc : any_of (same_use o) es ≡ false → (t : Summary) → t ≡ summary es → told_by t o ≡ summary (es ++ (o ∷ []))
+  told_snoc f t e =
       rw (
-        h,
-        l,
-        x,
+        e,
         from_snoc None 3 counts_hops (λ o. Some (get_or o.body 1 0)) hops_use es o f,
         from_snoc 0 5 (adds_up latency) (λ o. number o.body) (adds_use latency) es o f,
         from_snoc 0 7 (adds_up etx) (λ o. number o.body) (adds_use etx) es o f,
-        pushed (counts_hops o),
       )
-    where
-      pushed : (b : Bool) → hops_of (cond b (Some (get_or o.body 1 0)) (hop_count es)) ≡ cond b (suc (get_or o.body 1 0)) (hops_of (hop_count es))
-      pushed true = refl
-      pushed false = refl
+
+-- the same in what is told
+module _ (t : Summary) (o : Object) where
+  silent : counts_hops o ≡ false → adds_up latency o ≡ false → adds_up etx o ≡ false → t ≡ told_by t o
+  silent h l x = rw (h, l, x)
+
+  pub constraint_tells : role o ≡ constraint → t ≡ told_by t o
+  constraint_tells r = silent (rw (r, and-false (is_hp (kind o)))) (not_added latency o (rw r)) (not_added etx o (rw r))
+
+  pub recorded_tells : role o ≡ recorded → cannot_be (role o) (row (kind o)) ≡ false → t ≡ told_by t o
+  unfolding kind_of
+  recorded_tells r u = silent (no_hops o (λ q. true≢false (rw (r, q) at u))) (not_added latency o (rw r)) (not_added etx o (rw r))
 
 -- ---- an aggregated metric, by its type and A
 
-module _ (o : Object) (r : role o ≡ aggregated) where
-  -- each number as the object tells it, or as before
-  pub hops_told_lem : (n v : ℕ) → n ≡ suc (get_or o.body 1 0) → o.type ≡ 3 → n ≡ cond (counts_hops o) (suc (get_or o.body 1 0)) v
-  hops_told_lem n v e t = rw (hp_type o.type, eq-eqb o.type 3 t, r) e
-
-  pub sum_told : (s : Scalar) (n v : ℕ) → n ≡ number o.body → o.type ≡ type_of s → eqb (field_a o) 0 ≡ true → n ≡ cond (adds_up s o) (number o.body) v
-  sum_told s n v e t a = rw (eq-eqb o.type (type_of s) t, r, a) e
-
 module _ (o : Object) where
-  pub hops_kept : (v : ℕ) → (o.type ≡ 3 → ⊥) → v ≡ cond (counts_hops o) (suc (get_or o.body 1 0)) v
-  hops_kept v n = rw (no_hops o n)
+  hops_kept : {A : Type 0} (v x : A) → (o.type ≡ 3 → ⊥) → x ≡ cond (counts_hops o) v x
+  hops_kept v x n = rw (no_hops o n)
 
-  pub not_summed : (s : Scalar) (v : ℕ) → eqb (field_a o) 0 ≡ false → v ≡ cond (adds_up s o) (number o.body) v
-  not_summed s v a = rw (a, and-false (eqb o.type (type_of s) && is_aggregated (role o)))
+  sum_kept : (s : Scalar) (v x : ℕ) → (o.type ≡ type_of s → ⊥) → x ≡ cond (adds_up s o) v x
+  sum_kept s v x n = rw (no_adds s o n)
 
-  pub sum_kept : (s : Scalar) (v : ℕ) → (o.type ≡ type_of s → ⊥) → v ≡ cond (adds_up s o) (number o.body) v
-  sum_kept s v n = rw (no_adds s o n)
+  -- what each type tells, and what it leaves
+  module _ (t : Summary) (r : role o ≡ aggregated) where
+    tells : (h : Option ℕ) (l x : ℕ) → h ≡ cond (counts_hops o) (Some (get_or o.body 1 0)) t.hops → l ≡ cond (adds_up latency o) (number o.body) t.latency
+        → x ≡ cond (adds_up etx o) (number o.body) t.etx → record { hops = h; latency = l; etx = x } ≡ told_by t o
+    tells h l x a b c = rw (a, b, c)
 
-  -- all of them
-  pub tells : (g : Gathered) (h l x : ℕ) → h ≡ (told_by g o).hops → l ≡ (told_by g o).latency → x ≡ (told_by g o).etx
-      → record { number = g.number; place = g.place; seen = g.seen; hops = h; latency = l; etx = x; flags = g.flags } ≡ told_by g o
-  tells g h l x a b c = rw (a, b, c)
+    summed : (s : Scalar) (n v : ℕ) → o.type ≡ type_of s → eqb (field_a o) 0 ≡ true → n ≡ number o.body → n ≡ cond (adds_up s o) (number o.body) v
+    summed s n v q a e = rw (eq-eqb o.type (type_of s) q, r, a) e
+
+    pub tells_hops : (n : ℕ) → o.type ≡ 3 → n ≡ get_or o.body 1 0 → record { hops = Some n; latency = t.latency; etx = t.etx } ≡ told_by t o
+    tells_hops n q e =
+        tells _ _ _ (rw (hp_type o.type, eq-eqb o.type 3 q, r, e) refl) (sum_kept latency (number o.body) t.latency (λ z. omega arith)) (sum_kept etx (number o.body) t.etx (λ z. omega arith))
+
+    pub tells_latency : (n : ℕ) → o.type ≡ 5 → eqb (field_a o) 0 ≡ true → n ≡ number o.body → record { hops = t.hops; latency = n; etx = t.etx } ≡ told_by t o
+    tells_latency n q a e =
+        tells _ _ _ (hops_kept (Some (get_or o.body 1 0)) t.hops (λ z. omega arith)) (summed latency n t.latency q a e) (sum_kept etx (number o.body) t.etx (λ z. omega arith))
+
+    pub tells_etx : (n : ℕ) → o.type ≡ 7 → eqb (field_a o) 0 ≡ true → n ≡ number o.body → record { hops = t.hops; latency = t.latency; etx = n } ≡ told_by t o
+    tells_etx n q a e =
+        tells _ _ _ (hops_kept (Some (get_or o.body 1 0)) t.hops (λ z. omega arith)) (sum_kept latency (number o.body) t.latency (λ z. omega arith)) (summed etx n t.etx q a e)
+
+    pub tells_nothing : (o.type ≡ 3 → ⊥) → ((o.type ≡ 5) → eqb (field_a o) 0 ≡ false) → ((o.type ≡ 7) → eqb (field_a o) 0 ≡ false) → t ≡ told_by t o
+    tells_nothing h l x = tells _ _ _ (hops_kept (Some (get_or o.body 1 0)) t.hops h) (no_sum latency t.latency l) (no_sum etx t.etx x)
+      where
+        no_sum : (s : Scalar) (v : ℕ) → (o.type ≡ type_of s → eqb (field_a o) 0 ≡ false) → v ≡ cond (adds_up s o) (number o.body) v
+        no_sum s v f = go (eqb (field_a o) 0) refl
+          where
+            go : (b : Bool) → eqb (field_a o) 0 ≡ b → v ≡ cond (adds_up s o) (number o.body) v
+            go true e = sum_kept s (number o.body) v (λ q. true≢false (sym e ∙ f q))
+            go false e = rw (e, and-false (eqb o.type (type_of s) && is_aggregated (role o)))

@@ -10,9 +10,9 @@ use Rattle.model.specs.Object.{Object, before, split, join, bytes_of, behind}
 use Rattle.model.specs.Reading.{data_objects}
 use Rattle.model.proofs.ObjectLaws.{split-append, join-append, join_four}
 use Rattle.wire.specs.declared.objects.Header.{Header}
-use Rattle.wire.specs.declared.objects.Cursor.{Cursor}
-use Rattle.wire.specs.declared.objects.Step.{Step}
-use Rattle.wire.specs.declared.objects.Step.TheVariants.{Found, CutShort, End}
+use Rattle.wire.specs.Step.{Cursor}
+use Rattle.wire.specs.Step.{Step}
+use Rattle.wire.specs.Step.{Found, CutShort, End}
 use Rattle.wire.specs.Step.{first_cursor, step_at, object_in}
 use Rattle.wire.specs.Walk.{after, walk_up_to, walk, Walks}
 use Rattle.wire.proofs.StepLaws.{found, left, step_inside, bytes_at, split_found, split_short, split_end}

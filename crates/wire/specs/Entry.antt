@@ -1,7 +1,13 @@
 -- What the options of a run lead to: the step from one container to the next.
 use Rattle.std.specs.Prelude.{ℕ, zero, suc, ◌+◌, List, [], ◌∷◌, cond, ◌&&◌, length, drop, leb, ltb, eqb}
-use Rattle.wire.specs.declared.options.Entry.{Entry}
-use Rattle.wire.specs.declared.options.Entry.TheVariants.{Into, Short, Nothing}
+use Rattle.wire.specs.Step.{Cursor}
+
+-- what options lead to: a container with data, by the place before its first object and the index behind its last byte; an option that is
+-- cut short; or nothing more
+pub data Entry : Type 0 where
+  Into : (first : Cursor) → (end : ℕ) → Entry
+  Short : Entry
+  Nothing : Entry
 
 -- the number of bytes of the option at the head: Pad1, or type, length and data; 0 where it is cut short
 unfoldable pub option_size : List ℕ → ℕ

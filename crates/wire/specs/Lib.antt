@@ -1,5 +1,8 @@
 pub mod Number
+pub mod MetricType
 pub mod Step
+pub mod Front
+pub mod Options
 pub mod Entry
 pub mod Start
 pub mod Frame
@@ -7,7 +10,6 @@ pub mod Walk
 pub mod Row
 pub mod Reading
 pub mod Put
-pub mod Tlv
 pub mod Seen
 pub mod SeenRows
 pub mod Mandatory

@@ -1,25 +1,24 @@
--- A container that is read, in the enum of code: document 01's number and values for each case.
-use Rattle.std.specs.Prelude.{ℕ, suc, length}
-use Rattle.model.specs.Number.{Quantity}
-use Rattle.std.specs.Prelude.{Some, None}
+-- A run that is read: document 01's number and values for each case, and the same in the Result of code.
+use Rattle.std.specs.Prelude.{ℕ, Bool, length, Result, Ok, Err}
 use Rattle.model.specs.declared.Summary.{Summary}
+use Rattle.model.specs.declared.verdicts.Bar.{Bar}
 use Rattle.model.specs.Number.{any_of}
 use Rattle.model.specs.Reading as model
 use Rattle.model.specs.Constraint.{summary, mandatory}
-use Rattle.wire.specs.declared.container.Told.{Told}
-use Rattle.wire.specs.declared.container.Reading.{Reading}
-use Rattle.wire.specs.declared.container.Reading.TheVariants.{Refused, WellFormed}
+use Rattle.model.specs.Bars.{bar_number, bar_place}
+use Rattle.wire.specs.declared.container.Reading as code
 
--- the count of an HP metric as one number: one more than the count, 0 for none
-abbrev pub hops_of : Quantity → ℕ
-hops_of (Some v) = suc v
-hops_of None = 0
+-- refused by a bar at the index of its object; or well-formed, with the number of objects, whether some are mandatory constraints, and what they tell the tests of these
+pub data Reading : Type 0 where
+  Refused : (number place : ℕ) → Reading
+  WellFormed : (count : ℕ) → (mandatory : Bool) → Summary → Reading
 
--- what a container tells the tests of its constraints, the count as one number
-abbrev pub told_of : Summary → Told
-told_of s = record { hops = hops_of s.hops; latency = s.latency; etx = s.etx }
-
--- refused by a bar at the index of its object; or well-formed, with the number of objects, whether some are mandatory constraints, and what the tests of these ask
+-- by the model's
 abbrev pub reading_of : model.Reading → Reading
 reading_of (model.refused n p) = Refused n p
-reading_of (model.well_formed os) = WellFormed (length os) (any_of mandatory os) (told_of (summary os))
+reading_of (model.well_formed os) = WellFormed (length os) (any_of mandatory os) (summary os)
+
+-- by what code answers
+abbrev pub reading_in : Result code.Reading Bar → Reading
+reading_in (Ok r) = WellFormed r.count r.mandatory r.summary
+reading_in (Err b) = Refused (bar_number b) (bar_place b)

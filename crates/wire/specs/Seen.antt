@@ -1,6 +1,8 @@
 -- The duplicate test: which uses of known types were seen, as the bits of a number. Bar 16 reads it and no earlier object.
-use Rattle.std.specs.Prelude.{◌≡◌, ℕ, ◌+◌, ◌-◌, ◌*◌, ◌^◌, ◌<◌, Bool, true, cond, ◌&&◌, List, [], ◌∷◌, leb, eqb}
+use Rattle.std.specs.Prelude.{◌≡◌, ℕ, ◌+◌, ◌-◌, ◌*◌, ◌^◌, ◌<◌, Bool, true, cond, ◌&&◌, List, [], ◌∷◌, leb, eqb, Result, Ok, Err}
 use Rattle.std.specs.Int.Bits.{bit_or}
+use Rattle.model.specs.declared.verdicts.ObjectBar.{ObjectBar}
+use Rattle.model.specs.Bars.{object_bar_number}
 use Rattle.model.specs.Number.{any_of, ◌when◌, first_case}
 use Rattle.model.specs.Object.{Object, bit_c, Standing, kind, known}
 use Rattle.model.specs.Reading.{malformed, misused, same_use, repeated, object_bar}
@@ -26,6 +28,11 @@ seen_from n (o ∷ os) = seen_from (with_use n o) os
 -- the bits behind a container's first objects
 abbrev pub seen_after : (earlier : List Object) → ℕ
 seen_after es = seen_from 0 es
+
+-- the number of a bar at an object in the Result of code; 0 for none
+abbrev pub bar_in : Result Unit ObjectBar → ℕ
+bar_in (Ok u) = 0
+bar_in (Err b) = object_bar_number b
 
 -- an object without others before it
 abbrev pub alone : Object → Standing

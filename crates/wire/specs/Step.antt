@@ -2,9 +2,16 @@
 use Rattle.std.specs.Prelude.{ℕ, ◌+◌, ◌-◌, List, cond, length, take, drop, get_or, leb, ltb}
 use Rattle.model.specs.Object.{Object, object}
 use Rattle.wire.specs.declared.objects.Header.{Header}
-use Rattle.wire.specs.declared.objects.Cursor.{Cursor}
-use Rattle.wire.specs.declared.objects.Step.{Step}
-use Rattle.wire.specs.declared.objects.Step.TheVariants.{Found, CutShort, End}
+
+-- a place between two objects of a container
+pub record Cursor : Type 0 where
+  pub at : ℕ
+
+-- what stands there: an object, by the indices where its body begins and ends, and the place behind it; one that is cut short; or nothing more
+pub data Step : Type 0 where
+  Found : Header → (start end : ℕ) → (next : Cursor) → Step
+  CutShort : Step
+  End : Step
 
 -- behind byte 0x02 and the data length
 abbrev pub first_cursor : Cursor

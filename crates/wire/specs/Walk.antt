@@ -5,11 +5,11 @@ use Rattle.std.proofs.Math.Seq.{slice}
 use Rattle.model.specs.Object.{Object, before, split, behind}
 use Rattle.model.specs.Reading.{data_objects}
 use Rattle.model.specs.Run.{joined, run_objects}
-use Rattle.wire.specs.declared.objects.Cursor.{Cursor}
-use Rattle.wire.specs.declared.objects.Step.{Step}
-use Rattle.wire.specs.declared.objects.Step.TheVariants.{Found, CutShort, End}
-use Rattle.wire.specs.declared.options.Entry.{Entry}
-use Rattle.wire.specs.declared.options.Entry.TheVariants.{Into, Short, Nothing}
+use Rattle.wire.specs.Step.{Cursor}
+use Rattle.wire.specs.Step.{Step}
+use Rattle.wire.specs.Step.{Found, CutShort, End}
+use Rattle.wire.specs.Entry.{Entry}
+use Rattle.wire.specs.Entry.{Into, Short, Nothing}
 use Rattle.wire.specs.Step.{first_cursor, step_at, object_in}
 use Rattle.wire.specs.Entry.{entry_at}
 use Rattle.wire.specs.Start.{start_of}

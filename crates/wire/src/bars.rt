@@ -1,62 +1,68 @@
-// Bars 15 to 17 at an object of known type, by its role and the uses seen before it.
-ghost use Rattle.std.specs.Prelude.{◌≡◌, true, false, cond, []};
-ghost use Rattle.model.specs.Object.{kind_of, known, role_of, is_recorded, recorded, aggregated};
+// Bars 15 to 17 at an object, by its role and the uses seen before it.
+ghost use Rattle.std.specs.Prelude.{◌≡◌, true, cond, []};
+ghost use Rattle.model.specs.Object.{kind_of, known, role_of};
 ghost use Rattle.model.specs.Table.{row};
-ghost use Rattle.model.specs.Reading.{cannot_be};
+ghost use Rattle.model.specs.Reading.{cannot_be, shaped};
+ghost use Rattle.wire.specs.MetricType.{kind_in};
 ghost use Rattle.wire.specs.Step.{object_of};
-ghost use Rattle.wire.specs.Seen.{has_use, bar_by};
+ghost use Rattle.wire.specs.Front.{seen};
+ghost use Rattle.wire.specs.Seen.{has_use, bar_by, bar_in};
 
-use crate::objects::Header;
-use crate::{bodies, seen, table};
+use crate::bodies;
+use crate::metric_type::MetricType;
+use crate::objects::{Header, Object};
+use crate::seen::Uses;
+use model::ObjectBar;
 
-// 16 for an object whose use was seen, else another number.
-fn repeat_or(seen: u32, header: Header, number: u8) -> u8
-    ensures { result ≡ cond (has_use seen (object_of header [])) 16 number }
+// Whether an object is a metric that its type cannot be: recorded, or aggregated by any A.
+#[inline(always)]
+fn cannot_be(header: Header, metric_type: MetricType) -> bool
+    ensures { result ≡ cannot_be (role_of header.flags header.mode) (row (kind_in metric_type)) }
 {
-    if seen::has(seen, header) {
-        return 16;
+    if header.is_constraint() {
+        return false;
     }
-    number
+    if header.is_recorded() {
+        return !metric_type.row().records;
+    }
+    metric_type.row().allows == 0
 }
 
-// The lower of 15 and 16 at a constraint, or at an aggregated metric that its type can be; 0 for none.
-pub(crate) fn fixed_bar(header: Header, body: &[u8], seen: u32) -> u8
-    requires mctype_value { known (kind_of header.mctype) ≡ true }
-    requires mode_value { is_recorded (role_of header.flags header.mode) ≡ false }
-    requires mctype_value_2 { cannot_be (role_of header.flags header.mode) (row (kind_of header.mctype)) ≡ false }
-    ensures { result ≡ bar_by (has_use seen (object_of header [])) (object_of header body.now) }
+// Whether an object's body is as its type has it in its role.
+#[inline(always)]
+fn is_shaped(header: Header, metric_type: MetricType, body: &[u8]) -> bool
+    ensures { result ≡ shaped (role_of header.flags header.mode) (row (kind_in metric_type)) body.now }
 {
-    if !bodies::is_fixed(header.mctype, body) {
-        return 15;
+    if header.is_recorded() {
+        return bodies::is_series(metric_type, body);
     }
-    repeat_or(seen, header, 0)
+    bodies::is_fixed(metric_type, body)
 }
 
-// The lowest of 15, 16 and 17 at an aggregated metric; 0 for none.
-pub(crate) fn aggregated_bar(header: Header, body: &[u8], seen: u32) -> u8
-    requires mctype_value { known (kind_of header.mctype) ≡ true }
-    requires mode_value { role_of header.flags header.mode ≡ aggregated }
-    ensures { result ≡ bar_by (has_use seen (object_of header [])) (object_of header body.now) }
+// 16 at an object whose use was seen.
+#[inline(always)]
+fn check_use(uses: Uses, header: Header) -> Result<(), ObjectBar>
+    ensures { bar_in result ≡ cond (has_use uses.0 (object_of header [])) 16 0 }
 {
-    let row = table::row_of(header.mctype);
-    if row.allows == 0 {
-        return repeat_or(seen, header, 17);
+    if uses.has(header) {
+        return Err(ObjectBar::Repeat);
     }
-    fixed_bar(header, body, seen)
+    Ok(())
 }
 
-// The lowest of 15, 16 and 17 at a recorded metric; 0 for none.
-pub(crate) fn recorded_bar(header: Header, body: &[u8], seen: u32) -> u8
-    requires mctype_value { known (kind_of header.mctype) ≡ true }
-    requires mode_value { role_of header.flags header.mode ≡ recorded }
-    ensures { result ≡ bar_by (has_use seen (object_of header [])) (object_of header body.now) }
+// The lowest of 15, 16 and 17 at an object of known type; the shape of its body is not asked for where 17 holds.
+#[inline(always)]
+pub(crate) fn check(uses: Uses, object: Object) -> Result<(), ObjectBar>
+    requires { known (kind_of object.header.mctype) ≡ true }
+    ensures { bar_in result ≡ bar_by (has_use uses.0 (object_of object.entry.header [])) (seen object.entry) }
 {
-    let row = table::row_of(header.mctype);
-    if !row.records {
-        return repeat_or(seen, header, 17);
+    let metric_type = object.header.metric_type();
+    if cannot_be(object.header, metric_type) {
+        check_use(uses, object.header)?;
+        return Err(ObjectBar::Recorded);
     }
-    if !bodies::is_series(header.mctype, body) {
-        return 15;
+    if !is_shaped(object.header, metric_type, object.body) {
+        return Err(ObjectBar::Body);
     }
-    repeat_or(seen, header, 0)
+    check_use(uses, object.header)
 }

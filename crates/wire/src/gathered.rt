@@ -1,127 +1,108 @@
-// What the reading pass gathers of a run's objects, one behind another. Each role has its own way through the bars, so that an
-// object meets no test of another one.
-ghost use Rattle.std.specs.Prelude.{◌≡◌, ◌^◌, ◌<◌, true, List, [], ◌∷◌, ◌++◌, eqb};
-ghost use Rattle.model.specs.Object.{Object, field_a, kind_of, role_of, aggregated};
+// What the reading pass gathers of a run's objects, one behind another.
+ghost use Rattle.std.specs.Prelude.{◌≡◌, ◌<◌, true, false, List};
+ghost use Rattle.model.specs.Object.{kind, role};
+ghost use Rattle.model.specs.Object as model;
 ghost use Rattle.model.specs.Table.{row};
-ghost use Rattle.model.specs.Reading.{fixed_shape};
-ghost use Rattle.wire.specs.Step.{object_of};
-ghost use Rattle.wire.specs.Seen.{with_use};
-ghost use Rattle.wire.specs.Gathered.{Gathers, untold, counted, told_by};
+ghost use Rattle.model.specs.Reading.{cannot_be, shaped};
+ghost use Rattle.wire.specs.Front.{seen};
+ghost use Rattle.wire.specs.Gathered.{Gathers, Adds, With, untold, told_by};
 
-use crate::objects::Header;
-use crate::{bars, mandatory, numbers, objects, seen, table};
+use crate::bars;
+use crate::mandatory::FlagsSeen;
+use crate::metric_type::MetricType;
+use crate::objects::{Header, Object};
+use crate::seen::Uses;
+use model::{ObjectBar, Summary};
 
-// What is gathered of the objects up to the first with a bar: its number, or 0; its index, or the number of objects; the
-// uses seen; one more than the count of the HP metric, 0 for none; the latency and the ETX that are added up along the path, else 0; the
-// flags seen, by bits. Numbers alone stay in registers.
+// What is gathered of objects none of which has a bar: their number, the uses seen, what they tell the tests of constraints, and the flags seen.
 #[derive(Clone, Copy)]
 pub struct Gathered {
-    pub number: u8,
-    pub place: usize,
-    pub seen: u32,
-    pub hops: u16,
-    pub latency: u32,
-    pub etx: u16,
-    pub flags: u32,
+    pub count: usize,
+    pub uses: Uses,
+    pub summary: Summary,
+    pub flags: FlagsSeen,
 }
 
-// Of no object.
-pub(crate) fn nothing() -> Gathered
-    ensures { result ≡ untold }
+// What an object of known type without a bar tells, in place of what was told before it: an HP metric its count; a latency or an ETX that
+// is added up along the path, A=0, its value.
+#[inline(always)]
+fn told_with(summary: Summary, object: Object) -> Summary
+    requires allowed { cannot_be (role (seen object)) (row (kind (seen object))) ≡ false }
+    requires shaped { shaped (role (seen object)) (row (kind (seen object))) object.body.now ≡ true }
+    ensures { result ≡ told_by summary (seen object.entry) }
 {
-    Gathered {
-        number: 0,
-        place: 0,
-        seen: 0,
-        hops: 0,
-        latency: 0,
-        etx: 0,
-        flags: 0,
+    if object.header.is_constraint() {
+        return summary;
+    }
+    if object.header.is_recorded() {
+        return summary;
+    }
+    let is_added = object.header.aggregation() == 0;
+    match (object.header.metric_type(), object.body) {
+        (MetricType::HopCount, [_, count, ..]) => Summary {
+            hops: Some(*count),
+            latency: summary.latency,
+            etx: summary.etx,
+        },
+        (MetricType::Latency, [a, b, c, d]) if is_added => Summary {
+            hops: summary.hops,
+            latency: u32::from_be_bytes([*a, *b, *c, *d]),
+            etx: summary.etx,
+        },
+        (MetricType::Etx, [a, b]) if is_added => Summary {
+            hops: summary.hops,
+            latency: summary.latency,
+            etx: u16::from_be_bytes([*a, *b]),
+        },
+        _ => summary,
     }
 }
 
-// One object more, with a bar or without. An unknown type leaves the uses seen as they are.
-fn count(g: Gathered, header: Header, flags: u32, number: u8) -> Gathered
-    requires { g.place < 2 ^ 62 }
-    ensures { result ≡ counted g number (with_use g.seen (object_of header [])) flags }
-{
-    if number != 0 {
-        return Gathered {
-            number,
-            place: g.place,
-            seen: g.seen,
-            hops: g.hops,
-            latency: g.latency,
-            etx: g.etx,
-            flags,
-        };
-    }
-    Gathered {
-        number: 0,
-        place: g.place + 1,
-        seen: seen::with(g.seen, header),
-        hops: g.hops,
-        latency: g.latency,
-        etx: g.etx,
-        flags,
-    }
-}
-
-// Whether A is 0: an aggregated metric is added up along the path.
-fn is_added(header: Header) -> bool
-    ensures { result ≡ eqb (field_a (object_of header [])) 0 }
-{
-    header.mode / 16 % 8 == 0
-}
-
-// One aggregated metric more without a bar, and what it tells.
-fn tell(g: Gathered, header: Header, flags: u32, body: &[u8]) -> Gathered
-    requires place_bound { g.place < 2 ^ 62 }
-    requires mode_value { role_of header.flags header.mode ≡ aggregated }
-    requires body_value { fixed_shape (row (kind_of header.mctype)) body.now ≡ true }
-    ensures { result ≡ told_by (counted g 0 (with_use g.seen (object_of header [])) flags) (object_of header body.now) }
-{
-    let mut more = count(g, header, flags, 0);
-    if header.mctype == 3 {
-        more.hops = body[1] as u16 + 1;
-        return more;
-    }
-    if header.mctype == 5 {
-        if !is_added(header) {
-            return more;
+impl Gathered {
+    // Of no object.
+    #[inline(always)]
+    pub(crate) fn new() -> Self
+        ensures { result ≡ untold }
+    {
+        Gathered {
+            count: 0,
+            uses: Uses(0),
+            summary: Summary {
+                hops: None,
+                latency: 0,
+                etx: 0,
+            },
+            flags: FlagsSeen(0),
         }
-        more.latency = numbers::four(body);
-        return more;
     }
-    if header.mctype == 7 {
-        if !is_added(header) {
-            return more;
-        }
-        more.etx = numbers::two(body);
-        return more;
-    }
-    more
-}
 
-// One object more, behind others that have no bar. Of an object of unknown type only the flags are kept.
-pub(crate) fn gather(g: Gathered, header: Header, body: &[u8]) -> Gathered
-    requires place_bound { g.place < 2 ^ 62 }
-    requires number_value { g.number ≡ 0 }
-    ensures { (es : List Object) → Gathers g es → Gathers result (es ++ (object_of header body.now ∷ [])) }
-{
-    let flags = mandatory::shown_with(g.flags, header);
-    if !table::is_known(header.mctype) {
-        return count(g, header, flags, 0);
+    // With one object more, behind which that much is told.
+    #[inline(always)]
+    fn with(self, header: Header, summary: Summary) -> Gathered
+        requires { self.count < 18446744073709551615 }
+        ensures { With self header summary result }
+    {
+        Gathered {
+            count: self.count + 1,
+            uses: self.uses.with(header),
+            summary,
+            flags: self.flags.with(header),
+        }
     }
-    if objects::is_constraint(header) {
-        return count(g, header, flags, bars::fixed_bar(header, body, g.seen));
+
+    // One object more, or the lowest of bars 15 to 17 that it has. Of an object of unknown type only the flags are kept.
+    #[inline(always)]
+    pub(crate) fn add(&mut self, object: Object) -> Result<(), ObjectBar>
+        requires { self.old.count < 18446744073709551615 }
+        ensures { (es : List model.Object) → Gathers self.old es → Adds self.old es (seen object.entry) result self.new }
+    {
+        let header = object.header;
+        if !header.metric_type().is_known() {
+            *self = self.with(header, self.summary);
+            return Ok(());
+        }
+        bars::check(self.uses, object)?;
+        *self = self.with(header, told_with(self.summary, object));
+        Ok(())
     }
-    if objects::is_recorded(header) {
-        return count(g, header, flags, bars::recorded_bar(header, body, g.seen));
-    }
-    let number = bars::aggregated_bar(header, body, g.seen);
-    if number != 0 {
-        return count(g, header, flags, number);
-    }
-    tell(g, header, flags, body)
 }

@@ -1,7 +1,13 @@
-// The step from one object of a container to the next, which every pass over a container takes.
-ghost use Rattle.std.specs.Prelude.{◌≡◌};
-ghost use Rattle.model.specs.Object.{is_constraint, is_recorded, role_of};
-ghost use Rattle.wire.specs.Step.{first_cursor, step_at};
+// The objects of a container's data (RFC 6551, section 2.1), one after another.
+ghost use Rattle.std.specs.Prelude.{◌≡◌, []};
+ghost use Rattle.std.specs.Iterator.{YieldsFirstBy, item_count};
+ghost use Rattle.model.specs.Object.{field_a, is_constraint, is_recorded, role_of, kind_of};
+ghost use Rattle.model.specs.Constraint.{mandatory};
+ghost use Rattle.wire.specs.MetricType.{kind_in};
+ghost use Rattle.wire.specs.Step.{object_of};
+ghost use Rattle.wire.specs.Front.{seen, front, ends_at, LeavesObjects};
+
+use crate::metric_type::MetricType;
 
 // Header bytes 0 to 2 of an object: its type (Routing-MC-Type); the flags P, C and O; the mode R, A and Prec.
 #[derive(Clone, Copy)]
@@ -11,80 +17,104 @@ pub struct Header {
     pub mode: u8,
 }
 
-// A place between two objects of a container. Only the step looks into it.
+impl Header {
+    // Its type, as far as it is known.
+    #[inline(always)]
+    pub fn metric_type(self) -> MetricType
+        ensures { kind_in result ≡ kind_of self.mctype }
+    {
+        MetricType::from(self.mctype)
+    }
+
+    // Whether the object is a constraint: C=1.
+    #[inline(always)]
+    pub fn is_constraint(self) -> bool
+        ensures { result ≡ is_constraint (role_of self.flags self.mode) }
+    {
+        self.flags / 2 % 2 == 1
+    }
+
+    // Whether it is a recorded metric: C=0 and R=1.
+    #[inline(always)]
+    pub fn is_recorded(self) -> bool
+        ensures { result ≡ is_recorded (role_of self.flags self.mode) }
+    {
+        (self.flags / 2 % 2 == 0) & (self.mode / 128 % 2 == 1)
+    }
+
+    // Whether it is a mandatory constraint: C=1 and O=0.
+    #[inline(always)]
+    pub fn is_mandatory(self) -> bool
+        ensures { result ≡ mandatory (object_of self []) }
+    {
+        self.flags % 4 == 2
+    }
+
+    // The field A.
+    #[inline(always)]
+    pub fn aggregation(self) -> u8
+        ensures { result ≡ field_a (object_of self []) }
+    {
+        self.mode / 16 % 8
+    }
+}
+
+// An object: its header, and its body in the bytes that it was read from.
 #[derive(Clone, Copy)]
-pub struct Cursor {
-    at: usize,
+pub struct Object<'a> {
+    pub header: Header,
+    pub body: &'a [u8],
 }
 
-// What stands at a cursor: an object, whose body is the container's bytes from start to end; a header or a body that
-// runs past the end; or nothing more.
+// The whole objects in front of bytes, as a container's data has them.
 #[derive(Clone, Copy)]
-pub enum Step {
-    Found {
-        header: Header,
-        start: usize,
-        end: usize,
-        next: Cursor,
-    },
-    CutShort,
-    End,
+pub struct Objects<'a> {
+    rest: &'a [u8],
 }
 
-// The cursor before a container's first object.
-pub fn first() -> Cursor
-    ensures { result ≡ first_cursor }
-{
-    Cursor { at: 2 }
-}
+impl<'a> Objects<'a> {
+    // The objects of a container's data.
+    #[inline(always)]
+    pub fn new(bytes: &'a [u8]) -> Self
+        ensures { result.rest.now ≡ bytes.now }
+    {
+        Objects { rest: bytes }
+    }
 
-// The cursor at an index.
-pub(crate) fn cursor_at(at: usize) -> Cursor
-    ensures { result ≡ record { at = at } }
-{
-    Cursor { at }
-}
-
-// What stands at a cursor of a container.
-pub fn next(container: &[u8], cursor: Cursor) -> Step
-    ensures { result ≡ step_at container.now cursor }
-{
-    let n = container.len();
-    let at = cursor.at;
-    if n <= at {
-        return Step::End;
-    }
-    let start = at + 4;
-    if n < start {
-        return Step::CutShort;
-    }
-    let size = container[at + 3] as usize;
-    let end = start + size;
-    if n < end {
-        return Step::CutShort;
-    }
-    Step::Found {
-        header: Header {
-            mctype: container[at],
-            flags: container[at + 1],
-            mode: container[at + 2],
-        },
-        start,
-        end,
-        next: Cursor { at: end },
+    // Whether nothing is left: what is left where there is no next object is cut short.
+    #[inline(always)]
+    pub fn is_done(&self) -> bool
+        ensures { result ≡ ends_at self.now.rest.now }
+    {
+        self.rest.is_empty()
     }
 }
 
-// Whether an object is a constraint.
-pub fn is_constraint(header: Header) -> bool
-    ensures { result ≡ is_constraint (role_of header.flags header.mode) }
-{
-    header.flags / 2 % 2 == 1
-}
+impl<'a> Iterator for Objects<'a> {
+    type Item = Object<'a>;
 
-// Whether an object is a recorded metric.
-pub fn is_recorded(header: Header) -> bool
-    ensures { result ≡ is_recorded (role_of header.flags header.mode) }
-{
-    (header.flags / 2 % 2 == 0) & (header.mode / 128 % 2 == 1)
+    ghost next_gives = { λ s r t. YieldsFirstBy seen (λ u. front u.rest.now) s r t × LeavesObjects s r t };
+
+    ghost remaining = { item_count (λ s. front s.rest.now) };
+
+    #[inline(always)]
+    fn next(&mut self) -> Option<Object<'a>> {
+        let [mctype, flags, mode, size, rest @ ..] = self.rest else {
+            return None;
+        };
+        let size = *size as usize;
+        if rest.len() < size {
+            return None;
+        }
+        let (body, behind) = rest.split_at(size);
+        self.rest = behind;
+        Some(Object {
+            header: Header {
+                mctype: *mctype,
+                flags: *flags,
+                mode: *mode,
+            },
+            body,
+        })
+    }
 }

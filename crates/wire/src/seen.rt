@@ -5,9 +5,13 @@ ghost use Rattle.wire.specs.Step.{object_of};
 ghost use Rattle.wire.specs.Seen.{use_index, has_use, with_use};
 
 use crate::objects::Header;
-use crate::table;
+
+// The bits.
+#[derive(Clone, Copy)]
+pub struct Uses(pub u32);
 
 // The index of the bit for the use of an object of known type. Type 0 would share those of type 1.
+#[inline(always)]
 fn use_index(header: Header) -> usize
     requires { known (kind_of header.mctype) ≡ true }
     ensures { (result < 16) × (result ≡ use_index (object_of header [])) }
@@ -15,24 +19,26 @@ fn use_index(header: Header) -> usize
     (header.mctype - 1) as usize * 2 + (header.flags / 2 % 2) as usize
 }
 
-// Whether the use of an object was seen; that of an unknown type never was.
-pub(crate) fn has(seen: u32, header: Header) -> bool
-    ensures { result ≡ has_use seen (object_of header []) }
-{
-    if table::is_known(header.mctype) {
-        let k = use_index(header);
-        return (seen as u64 >> k) % 2 == 1;
+impl Uses {
+    // Whether the use of an object was seen; that of an unknown type never was.
+    #[inline(always)]
+    pub(crate) fn has(self, header: Header) -> bool
+        ensures { result ≡ has_use self.0 (object_of header []) }
+    {
+        if !header.metric_type().is_known() {
+            return false;
+        }
+        (self.0 as u64 >> use_index(header)) % 2 == 1
     }
-    false
-}
 
-// The uses seen, with that of one object more; an unknown type leaves them as they are.
-pub(crate) fn with(seen: u32, header: Header) -> u32
-    ensures { result ≡ with_use seen (object_of header []) }
-{
-    if !table::is_known(header.mctype) {
-        return seen;
+    // With the use of one object more; an unknown type leaves them as they are.
+    #[inline(always)]
+    pub(crate) fn with(self, header: Header) -> Uses
+        ensures { result.0 ≡ with_use self.0 (object_of header []) }
+    {
+        if !header.metric_type().is_known() {
+            return self;
+        }
+        Uses(self.0 | (1 << use_index(header)))
     }
-    let k = use_index(header);
-    seen | (1 << k)
 }

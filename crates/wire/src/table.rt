@@ -1,7 +1,10 @@
-// Document 01's table: a row for each type.
+// The table of the types: the shape of each type's body, and what its metric can be (RFC 6551, sections 3 and 4).
 ghost use Rattle.std.specs.Prelude.{◌≡◌};
 ghost use Rattle.model.specs.Object.{known, kind_of};
-ghost use Rattle.wire.specs.Row.{byte_for, row_for};
+ghost use Rattle.wire.specs.MetricType.{kind_in};
+ghost use Rattle.wire.specs.Row.{row_in, row_for};
+
+use crate::metric_type::MetricType;
 
 // A row. A constraint or an aggregated metric has base bytes, and TLVs behind them where tlvs; a metric can be recorded where
 // records, as lead bytes and sub-objects of size bytes; bit a of allows is 1 where it can be aggregated by A = a.
@@ -15,42 +18,38 @@ pub struct Row {
     pub allows: u8,
 }
 
-// The table but for tlvs, a byte for each known type: from the left colour (8), ETX, LQL, latency, throughput, HP, NE and NSA (1). An
-// array would be put on the stack each time it is asked for. First allows and base, a digit each.
-const FIXED: u64 = 0x0372027474126262;
-
-// And lead and size, a digit each, with 0x80 where records.
-const SERIES: u64 = 0x9282918484008200;
-
-// Whether a type is known.
-pub fn is_known(mctype: u8) -> bool
-    ensures { result ≡ known (kind_of mctype) }
+// A row by its columns, in their order.
+#[inline(always)]
+fn columns(base: u8, tlvs: bool, records: bool, lead: u8, size: u8, allows: u8) -> Row
+    ensures { result ≡ record { base = base; tlvs = tlvs; records = records; lead = lead; size = size; allows = allows } }
 {
-    (1 <= mctype) & (mctype <= 8)
-}
-
-// The byte of a type; 0 for one that is not known.
-fn byte_of(table: u64, mctype: u8) -> u8
-    ensures { result ≡ byte_for table mctype }
-{
-    if !is_known(mctype) {
-        return 0;
-    }
-    ((table >> ((mctype as u32 - 1) * 8)) % 256) as u8
-}
-
-// The row of a type; one that is not known has an empty row.
-pub fn row_of(mctype: u8) -> Row
-    ensures { result ≡ row_for mctype }
-{
-    let fixed = byte_of(FIXED, mctype);
-    let series = byte_of(SERIES, mctype);
     Row {
-        base: fixed % 16,
-        tlvs: (1 <= mctype) & (mctype <= 3),
-        records: series / 128 == 1,
-        lead: series / 16 % 8,
-        size: series % 16,
-        allows: fixed / 16,
+        base,
+        tlvs,
+        records,
+        lead,
+        size,
+        allows,
+    }
+}
+
+impl MetricType {
+    // The row of a type; one that is not known has an empty row.
+    #[inline(always)]
+    pub fn row(self) -> Row
+        ensures { result ≡ row_in (kind_in self) }
+    {
+        match self {
+            //                               base, TLVs, recorded, lead, size, A that are allowed
+            MetricType::NodeState => columns(2, true, false, 0, 0, 0b110),
+            MetricType::NodeEnergy => columns(2, true, true, 0, 2, 0b110),
+            MetricType::HopCount => columns(2, true, false, 0, 0, 0b001),
+            MetricType::Throughput => columns(4, false, true, 0, 4, 0b111),
+            MetricType::Latency => columns(4, false, true, 0, 4, 0b111),
+            MetricType::LinkQuality => columns(2, false, true, 1, 1, 0b000),
+            MetricType::Etx => columns(2, false, true, 0, 2, 0b111),
+            MetricType::LinkColour => columns(3, false, true, 1, 2, 0b000),
+            MetricType::Unknown => columns(0, false, false, 0, 0, 0b000),
+        }
     }
 }

@@ -1,9 +1,7 @@
 -- Numbers in decimal and bytes in hexadecimal, by the ASCII codes of their digits.
-use Rattle.std.specs.Prelude.{ℕ, ◌+◌, ◌-◌, ◌*◌, Bool, true, cond, ◌&&◌, List, [], ◌∷◌, ltb, leb}
-use Rattle.words.specs.declared.digits.Decimal.{Decimal}
-use Rattle.words.specs.declared.digits.Decimal.TheVariants.{Value, TooLarge, NotANumber}
-use Rattle.words.specs.declared.digits.HexByte.{HexByte}
-use Rattle.words.specs.declared.digits.HexByte.TheVariants.{Byte, NotHex}
+use Rattle.std.specs.Prelude.{ℕ, ◌+◌, ◌-◌, ◌*◌, Bool, true, cond, ◌&&◌, List, [], ◌∷◌, ltb, leb, Option, Some, None, Result, Ok, Err}
+use Rattle.words.specs.declared.digits.NotDecimal.{NotDecimal}
+use Rattle.words.specs.declared.digits.NotDecimal.TheVariants.{TooLarge, NotANumber}
 
 -- ---- decimal
 
@@ -26,32 +24,32 @@ abbrev pub most : ℕ
 most = 18446744073709551615
 
 -- a number where it has 64 bits at most
-unfoldable pub fitted : ℕ → Decimal
-fitted n = cond (leb n most) (Value n) TooLarge
+unfoldable pub fitted : ℕ → Result ℕ NotDecimal
+fitted n = cond (leb n most) (Ok n) (Err TooLarge)
 
 -- what a word spells: it has a digit at least, and digits only
-unfoldable pub decimal_of : List ℕ → Decimal
-decimal_of [] = NotANumber
-decimal_of (d ∷ ds) = cond (all_digits (d ∷ ds)) (fitted (number_from 0 (d ∷ ds))) NotANumber
-
--- inside the crate: a number with one digit more
-unfoldable pub with_digit : Decimal → (digit : ℕ) → Decimal
-with_digit (Value n) d = fitted (n * 10 + d)
-with_digit TooLarge d = TooLarge
-with_digit NotANumber d = NotANumber
+unfoldable pub decimal_of : List ℕ → Result ℕ NotDecimal
+decimal_of [] = Err NotANumber
+decimal_of (d ∷ ds) = cond (all_digits (d ∷ ds)) (fitted (number_from 0 (d ∷ ds))) (Err NotANumber)
 
 -- ---- hexadecimal
 
--- the value of a digit, small or capital; 16 for any other byte
-unfoldable pub digit_of : ℕ → ℕ
+-- the value of a digit, small or capital; none for any other byte
+unfoldable pub digit_of : ℕ → Option ℕ
 digit_of b =
-    cond (ltb b 48) 16
-    (cond (leb b 57) (b - 48)
-    (cond (ltb b 65) 16
-    (cond (leb b 70) (b - 55)
-    (cond (ltb b 97) 16
-    (cond (leb b 102) (b - 87) 16)))))
+    cond (ltb b 48) None
+    (cond (leb b 57) (Some (b - 48))
+    (cond (ltb b 65) None
+    (cond (leb b 70) (Some (b - 55))
+    (cond (ltb b 97) None
+    (cond (leb b 102) (Some (b - 87)) None)))))
+
+-- the byte of two values, where each is one
+abbrev pub joined : (high low : Option ℕ) → Option ℕ
+joined None low = None
+joined (Some h) None = None
+joined (Some h) (Some l) = Some (h * 16 + l)
 
 -- the byte of two digits
-unfoldable pub byte_of : (high low : ℕ) → HexByte
-byte_of high low = cond (ltb 15 (digit_of high)) NotHex (cond (ltb 15 (digit_of low)) NotHex (Byte (digit_of high * 16 + digit_of low)))
+unfoldable pub byte_of : (high low : ℕ) → Option ℕ
+byte_of high low = joined (digit_of high) (digit_of low)

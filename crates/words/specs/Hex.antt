@@ -1,13 +1,11 @@
 -- The bytes that a text spells, each by a space and two hexadecimal digits.
-use Rattle.std.specs.Prelude.{ℕ, cond, List, [], ◌∷◌, ◌++◌, length, take, drop, eqb}
-use Rattle.words.specs.declared.digits.HexByte.{HexByte}
-use Rattle.words.specs.declared.digits.HexByte.TheVariants.{Byte, NotHex}
+use Rattle.std.specs.Prelude.{ℕ, cond, List, [], ◌∷◌, ◌++◌, length, take, drop, eqb, Option, Some, None}
 use Rattle.words.specs.Digits.{byte_of}
 
 -- a byte and those behind it; none where the digits spell none
-unfoldable pub ahead : HexByte → (behind : List ℕ) → List ℕ
-ahead (Byte b) bs = b ∷ bs
-ahead NotHex bs = []
+unfoldable pub ahead : Option ℕ → (behind : List ℕ) → List ℕ
+ahead (Some b) bs = b ∷ bs
+ahead None bs = []
 
 -- all bytes that a text spells, up to what is no space with two digits
 unfoldable pub bytes_from : List ℕ → List ℕ

@@ -1,5 +1,6 @@
 -- Where words stand in a text.
-use Rattle.std.specs.Prelude.{ℕ, suc, ◌+◌, Bool, not, cond, ◌&&◌, ◌||◌, List, [], ◌∷◌, drop, eqb}
+use Rattle.std.specs.Prelude.{◌≡◌, ℕ, ◌+◌, Bool, not, ◌&&◌, ◌||◌, List, drop, eqb}
+use Rattle.std.specs.List.{prefix_len}
 
 -- space, tab and carriage return stand between words
 abbrev pub is_space : ℕ → Bool
@@ -13,11 +14,10 @@ in_word b = ((not (eqb b 32) && not (eqb b 9)) && not (eqb b 13)) && not (eqb b 
 abbrev pub is_other : (sought : ℕ) → ℕ → Bool
 is_other sought b = not (eqb b sought)
 
--- how many bytes at the front of a run all pass a test
-unfoldable pub front : (ℕ → Bool) → List ℕ → ℕ
-front test [] = 0
-front test (b ∷ bs) = cond (test b) (suc (front test bs)) 0
-
 -- the first index from an index on whose byte fails a test, or the length; an index beyond the length is its own
 unfoldable pub behind : (ℕ → Bool) → List ℕ → (from : ℕ) → ℕ
-behind test bs from = from + front test (drop from bs)
+behind test bs from = from + prefix_len test (drop from bs)
+
+-- inside the crate: a closure answers what a test says
+abbrev pub IsTest : (ℕ → Bool → Type 0) → (ℕ → Bool) → Type 0
+IsTest post test = (b : ℕ) (r : Bool) → post b r → r ≡ test b

@@ -5,6 +5,6 @@ mod digits;
 mod hex;
 mod places;
 
-pub use digits::{Decimal, HexByte, byte, number};
+pub use digits::{NotDecimal, byte, number};
 pub use hex::bytes;
 pub use places::{find, word_end, word_start};

@@ -3,7 +3,7 @@ use Prim.Native.Nat.{◌<◌}
 use native.Mathlib.Omega.{arith}
 use borrow.Author.Rules.{rules}
 use lib.ListN.{length, take}
-use Rattle.model.specs.declared.Verdict.TheVariants.{Barred}
+use Rattle.model.specs.Verdict.{Barred}
 use Rattle.model.specs.Reading.{no_place}
 use Rattle.choice.specs.Given.{blank}
 use Rattle.reason.specs.Why.{refused}
@@ -24,11 +24,11 @@ loop-i-init c =
     let (few, below) = asked_within c.args.own c.args.count c.args.position c.in_ok-check_question.ensures in
     let array : length c.args.candidates.now ≡ 16 = search rules in
     let among : c.args.position < length (take c.args.count c.args.candidates.now) = omega arith in
-    asks_first c.args.own c.args.lent.now (take c.args.count c.args.candidates.now) c.args.position blank (Barred 0 no_place) among
+    asks_first c.args.own c.args.lent.now (take c.args.count c.args.candidates.now) c.args.position blank (Barred 13 no_place) among
 
 pub loop-i-preserved : goal.loop-i-preserved
 loop-i-preserved c =
-    asks_more c.loop-i.invariant c.loop-i-test.true c.judge-verdict.ensures c.kept-asked.ensures c.after-best.ensures
+    asks_more c.loop-i.invariant c.loop-i-test.true c.judge-verdict.ensures (rw c.kept-asked.ensures (kept_of c.loop-i.i c.args.position _ _)) c.after-best.ensures
 
 pub returns : goal.returns
 returns c =

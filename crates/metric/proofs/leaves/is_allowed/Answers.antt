@@ -1,4 +1,3 @@
-use borrow.Author.Rules.{rules}
 use Rattle.wire.specs.Row.{has_bit}
 use Rattle.wire.proofs.RowLaws.{masks_exact}
 use Rattle.metric.proofs.leaves.is_allowed.Goals as goal

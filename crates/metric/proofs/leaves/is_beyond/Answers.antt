@@ -1,14 +1,10 @@
 use mathlib.Core.Path.{sym, ◌∙◌}
+use native.Mathlib.Omega.{arith}
 use borrow.Author.Rules.{rules}
-use Rattle.metric.proofs.LeafLaws.{beyond_other, beyond_known, beyond_unknown}
+use Rattle.metric.proofs.LeafLaws.{beyond_known, not_same}
 use Rattle.metric.proofs.leaves.is_beyond.Goals as goal
 
-pub returns-then-mctype : goal.returns-then-mctype
-returns-then-mctype c = beyond_other _ _ _ c.if-mctype.true
-
-pub returns-in-Some : goal.returns-in-Some
-returns-in-Some c =
-    let match_is = c.in-Some.is in
-    let link-is = c.link_value.ensures in
-    c.is_over.ensures ∙ rw (c.add.ensures, c.number_4.ensures)
-    (beyond_known _ _ _ _ c.if-mctype.false (sym link-is ∙ match_is) (search rules))
+pub returns-in-4-Some : goal.returns-in-4-Some
+returns-in-4-Some c =
+    let v = beyond_known _ _ c.args.mctype _ (omega arith) (omega arith) (sym c.in-4-Some.ensures) (search rules) in
+    not_same _ _ (sym c.is_none.ensures ∙ rw (c.add.ensures, c.number_4.ensures) v)

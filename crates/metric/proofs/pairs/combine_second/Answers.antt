@@ -1,16 +1,18 @@
-use mathlib.Core.Path.{◌∙◌}
 use native.Mathlib.Omega.{arith}
-use borrow.Author.Tests.{eq-eqb, ne_eqb}
-use borrow.Author.Rules.{rules}
-use Rattle.model.proofs.ByteLaws.{combine_within}
-use Rattle.metric.proofs.KindLaws.{combined_by}
+use mathlib.Core.Path.{◌∙◌}
+use Rattle.model.specs.Object.{kind_of}
+use Rattle.metric.proofs.KindLaws.{combined_255, combined_other}
 use Rattle.metric.proofs.pairs.combine_second.Goals as goal
 
-pub returns-then-mctype-eq1 : goal.returns-then-mctype-eq1
-returns-then-mctype-eq1 c = c.combine_flags.ensures ∙ rw (← combined_by _ _ _ _, eq-eqb _ _ c.if-mctype-eq1.true)
+pub returns-in-1 : goal.returns-in-1
+unfolding kind_of
+returns-in-1 c = c.combine_flags.ensures ∙ rw c.in-1.is
 
-pub returns-then-mctype : goal.returns-then-mctype
-returns-then-mctype c = c.combine.ensures ∙ rw (← combined_by _ _ _ _, ne_eqb _ _ c.if-mctype-eq1.false, c.if-mctype.true)
+pub returns-in-2 : goal.returns-in-2
+returns-in-2 c = c.combine.ensures ∙ grind (arith, combined_255)
 
-pub returns : goal.returns
-returns c = rw (← combined_by _ _ _ _, ne_eqb _ _ c.if-mctype-eq1.false, c.if-mctype.false)
+pub returns-in_default : goal.returns-in_default
+returns-in_default c = grind (arith, combined_other)
+
+pub returns-in_default-2 : goal.returns-in_default-2
+returns-in_default-2 c = grind (arith, combined_other)

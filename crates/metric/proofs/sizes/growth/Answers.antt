@@ -1,8 +1,6 @@
 use mathlib.Core.Path.{◌∙◌}
 use native.Mathlib.Nat.{add-zero}
 use native.Mathlib.Omega.{arith}
-use borrow.Author.Rules.{rules}
-use Rattle.metric.proofs.RoleLaws.{as_recorded}
 use Rattle.metric.proofs.SizeLaws.{length_kept}
 use Rattle.metric.proofs.sizes.growth.Goals as goal
 

@@ -1,6 +1,5 @@
 use mathlib.Core.Path.{refl}
 use native.Mathlib.Omega.{arith}
-use borrow.Author.Rules.{rules}
 use Rattle.wire.proofs.RowLaws.{known_within}
 use Rattle.wire.proofs.seen.use_index.Goals as goal
 

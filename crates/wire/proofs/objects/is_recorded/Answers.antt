@@ -1,5 +1,0 @@
-use Rattle.wire.proofs.HeaderLaws.{recorded_by_lem}
-use Rattle.wire.proofs.objects.is_recorded.Goals as goal
-
-pub returns : goal.returns
-returns c = recorded_by_lem _ _
