@@ -1,9 +1,11 @@
 -- The first criterion on which two candidates differ, and that the first difference decides.
-use mathlib.Core.Path.{◌≡◌, refl, ap}
+use mathlib.Core.Path.{◌≡◌, refl, sym, ap, ◌∙◌}
 use Prim.Native.Nat.{ℕ, zero, suc, ◌-◌, ◌/◌, ◌%◌}
 use native.Mathlib.Omega.{arith}
-use mathlib.Core.Bool.{Bool, true, false, cond}
+use mathlib.Core.Bool.{Bool, true, false, cond, not, beq}
 use mathlib.Core.List.{List, [], ◌∷◌}
+use borrow.Author.Rules.{rules}
+use mir.Val.{bool_byte}
 use lib.Dec.{eqb}
 use borrow.Author.Tests.{eq-eqb, ne_eqb, eqb-true, eqb-false}
 use Rattle.model.specs.Number.{Quantity}
@@ -68,6 +70,14 @@ module _ (q : Quantity) (p : ℕ) (s : Offer) (b : ℕ) (r : Offer) where
   pub differ_current : s.ahead ≡ r.ahead → s.rank.0 ≡ r.rank.0 → (not_current q p ≡ not_current q b → ⊥) → differ 5 (1 - not_current q p) (1 - not_current q b) ≡ difference_of q p s b r
   unfolding difference_of
   differ_current e f h = rw (level_rank e f, first_differ _ _ _ _ h)
+
+  -- the same by who is the current parent
+  pub differ_flags : (x y : Bool) → s.ahead ≡ r.ahead → s.rank.0 ≡ r.rank.0 → cond x 0 1 ≡ not_current q p → cond y 0 1 ≡ not_current q b → not (beq x y) ≡ true
+      → differ 5 (bool_byte x) (bool_byte y) ≡ difference_of q p s b r
+  differ_flags true false e f m n h = rw (← m, ← n) at (differ_current e f (λ z. let w : ◌≡◌ {A = ℕ} 0 1 = m ∙ z ∙ sym n in omega arith))
+  differ_flags false true e f m n h = rw (← m, ← n) at (differ_current e f (λ z. let w : ◌≡◌ {A = ℕ} 1 0 = m ∙ z ∙ sym n in omega arith))
+  differ_flags true true e f m n h = search rules
+  differ_flags false false e f m n h = search rules
 
   pub differ_position : s.ahead ≡ r.ahead → s.rank.0 ≡ r.rank.0 → not_current q p ≡ not_current q b → (p ≡ b → ⊥) → differ 6 p b ≡ difference_of q p s b r
   unfolding difference_of

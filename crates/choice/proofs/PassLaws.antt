@@ -16,6 +16,9 @@ use Rattle.model.specs.Verdict.{Unbarred, Barred}
 use Rattle.model.specs.Choice.{Choice}
 use Rattle.model.specs.Choice.{Nobody}
 use Rattle.model.specs.declared.Answer.{Answer}
+use Rattle.std.specs.Prelude.{Option, Some, None, unwrap_or}
+use Rattle.model.specs.declared.verdicts.Bar.{Bar}
+use Rattle.model.specs.Bars.{place_told, place_or_none, bar_place}
 use Rattle.model.specs.Reading.{no_place}
 use Rattle.model.specs.Verdict.{verdict, number_of, place_of}
 use Rattle.model.specs.Choice.{current_of, after_verdict, choose_from, unbarred_bit, bits_of, sixteen, verdicts, choice_of}
@@ -85,6 +88,14 @@ gathered_place {own} {lent} {judged} g h =
     let ns = map place_of (verdicts own judged lent) in
     let l : length ns ≡ length judged = length-map (verdicts own judged lent) place_of ∙ length-map judged (verdict own lent) in
     rw (g.placed, ← l) (sixteen_same no_place ns (omega arith))
+
+-- the place of a bar, as a number
+pub told_place : (b : Bar) → unwrap_or (place_told b) no_place ≡ bar_place b
+told_place b = go (place_told b)
+  where
+    go : (p : Option ℕ) → unwrap_or p no_place ≡ place_or_none p
+    go None = refl
+    go (Some p) = refl
 
 -- the pass over sixteen candidates at most, before a position: those before it are gathered, and nothing else is answered yet
 pub record Pass (own : Own) (lent : List ℕ) (cs : List Candidate) (i : ℕ) (answer : Answer) (best : Choice) : Type 0 where
