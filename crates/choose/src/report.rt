@@ -6,13 +6,10 @@ use std::io::Write;
 
 // Writes what a number means, behind `: `.
 pub(crate) fn meaning(out: &mut Output, number: u8) -> io::Result<()> {
-    let mut words = [0u8; meaning::MEANING_ROOM];
-    let n = meaning::put_meaning(number, &mut words);
-    out.write_all(b": ")?;
-    out.write_all(&words[..n])
+    write!(out, ": {}", meaning::words(number))
 }
 
-// The index of an object, unless its place says that there is none.
+// The index of an object, unless its place says that there is none, which is 65535 in what C receives.
 pub(crate) fn object_at(place: u16) -> Option<u16> {
     (place != 65535).then_some(place)
 }
@@ -31,7 +28,8 @@ fn verdicts(out: &mut Output, answer: &Answer, count: usize) -> io::Result<()> {
     Ok(())
 }
 
-// Writes the lines of the parent and of the rank.
+// Writes the lines of the parent and of the rank. `Answer`, whose layout C has, says 255 for no parent, and 0 for no refusal and
+// no leaf answer.
 fn parent(out: &mut Output, answer: &Answer) -> io::Result<()> {
     if answer.parent == 255 {
         return writeln!(out, "parent none\nrank none");

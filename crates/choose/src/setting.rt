@@ -131,7 +131,7 @@ impl fmt::Display for Setting {
     }
 }
 
-// The settings that were given in a place, as a set: a bit for each.
+// The settings that were given in a place, as a set: a bit for each, since the library's sets want the heap.
 #[derive(Clone, Copy, Default)]
 pub struct Given(u32);
 

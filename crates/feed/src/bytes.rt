@@ -1,4 +1,5 @@
-// The parts of a run, byte by byte: of every option its container is kept, and of one that is not, the type byte while it is incomplete.
+// The parts of a run, byte by byte: of every option its container is kept, and of one that is not, the type byte while it is
+// incomplete.
 ghost use Rattle.std.specs.Prelude.{◌≡◌, length};
 ghost use Rattle.feed.specs.Numbers.{phase_of, keep_of};
 ghost use Rattle.feed.specs.Step.{more, stored, one_more, closed, closed_in, gone, gone_in, begun, begun_in, stepped, stepped_in, goes_on, goes_on_in, fed, fed_in};
@@ -6,10 +7,10 @@ ghost use Rattle.feed.specs.Keeping.{Becomes};
 
 use crate::phase::{Keep, Phase};
 
-// What was fed so far, all zeros before the first part: the bytes kept; where the last byte stands, 1 behind a type byte, 2 in an option, 255
-// where the buffer was too short, else between options; of the option in hand what becomes of it, 0 dropped, 1 kept as an empty container,
-// else kept whole, and how many of its bytes are missing; the containers so far, nine for more. Flat numbers, as C holds it and may hand in
-// any: `Phase` and `Keep` are what they are read as.
+// What was fed so far, all zeros before the first part: the bytes kept; where the last byte stands, 1 behind a type byte, 2 in an
+// option, 255 where the buffer was too short, else between options; what becomes of the option in hand, 0 dropped, 1 kept as
+// an empty container, else kept whole, and how many of its bytes are missing; the containers so far, nine for more. Flat numbers,
+// and the size apart from the buffer, as C holds both and may hand in any: `Phase` and `Keep` are what they are read as.
 #[repr(C)]
 #[derive(Clone, Copy)]
 pub struct Fed {
@@ -50,7 +51,7 @@ impl Fed {
     }
 }
 
-// One container more, of at most nine.
+// One container more, of at most nine. Not by `min`: a count over nine, which C may hand in, stays (`one_more`, specs/Step.antt).
 fn one_more(count: u8) -> u8
     ensures { result ≡ one_more count }
 {

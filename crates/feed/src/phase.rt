@@ -48,7 +48,7 @@ impl From<u8> for Keep {
 }
 
 impl Keep {
-    // Of DAG metric containers (RFC 6550, 6.7.4) the first eight are kept whole, the ninth as an empty one; no other option is kept.
+    // Of metric containers (RFC 6550, 6.7.4) the first eight are kept whole, the ninth as an empty one; no other option is kept.
     pub(crate) fn of(option_type: u8, count: u8) -> Keep
         ensures { keep_number_of result ≡ keep_number option_type count }
     {

@@ -1,8 +1,8 @@
 -- The length of a text as C receives it.
-use Rattle.std.specs.Prelude.{ℕ}
-use Rattle.listing.specs.declared.Listed.{Listed}
+use Rattle.std.specs.Prelude.{ℕ, Result, Ok, Err}
+use Rattle.listing.specs.declared.ShortOutput.{ShortOutput}
 
 -- the length of a listing; 2^64 - 1 where the output is too short
-abbrev pub size_of : Listed → ℕ
-size_of (Listed.Text n) = n
-size_of Listed.ShortOutput = 18446744073709551615
+abbrev pub size_of : Result ℕ ShortOutput → ℕ
+size_of (Ok n) = n
+size_of (Err short) = 18446744073709551615

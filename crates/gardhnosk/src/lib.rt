@@ -11,7 +11,7 @@ ghost use Rattle.meaning.specs.Meaning.{told, told_in};
 ghost use Rattle.gardhnosk.specs.Texts.{size_of};
 
 use feed::Fed;
-use listing::Listed;
+use listing::ShortOutput;
 use model::{Answer, Candidates, Own};
 
 // Chooses a preferred parent, and writes the containers for the next hop.
@@ -40,13 +40,10 @@ pub extern "C" fn gardhnosk_feed(state: Fed, part: &[u8], kept: &mut [u8]) -> Fe
 }
 
 // The length of a text as C receives it: 2^64 - 1 where the output is too short for any text.
-fn size_of(text: Listed) -> usize
+fn size_of(text: Result<usize, ShortOutput>) -> usize
     ensures { result ≡ size_of text }
 {
-    match text {
-        Listed::Text(size) => size,
-        Listed::ShortOutput => 18446744073709551615,
-    }
+    text.unwrap_or(usize::MAX)
 }
 
 // Writes the text that lists a container; answers its length, or 2^64 - 1 where the output is too short for any text.

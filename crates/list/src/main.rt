@@ -2,7 +2,7 @@
 #![tactic(auto)]
 
 use arrayvec::ArrayVec;
-use listing::Listed;
+use listing::ShortOutput;
 use std::io;
 use std::io::Read;
 
@@ -12,7 +12,7 @@ fn main(rt: HostRuntime) -> io::Result<()> {
     io::copy(&mut rt.stdin().take(258), &mut input)?;
     let mut text = [0u8; listing::TEXT_ROOM];
     match listing::list(input.as_slice(), &mut text) {
-        Listed::Text(size) => rt.write_all(&text[..size]),
-        Listed::ShortOutput => Ok(()),
+        Ok(size) => rt.write_all(&text[..size]),
+        Err(ShortOutput) => Ok(()),
     }
 }

@@ -1,25 +1,14 @@
--- The lines of objects: how long they are, and the walk that puts them into an output.
+-- The lines of objects: how long they are, and those of the objects that are listed so far.
 use mathlib.Core.Path.{◌≡◌, refl, sym, ◌∙◌}
-use Prim.Native.Nat.{ℕ, ◌+◌, ◌-◌, ◌*◌, ◌≤◌, ◌<◌}
+use Prim.Native.Nat.{ℕ, ◌+◌, ◌*◌, ◌≤◌, ◌<◌}
 use native.Mathlib.Omega.{arith}
 use mathlib.Core.List.{List, [], ◌∷◌, ◌++◌, append_assoc, append-nil}
-use mathlib.Core.Option.{some, none-ne-some}
-use lib.ListN.{length, drop, length-append, length-drop}
-use lib.Seq.{length-take-le}
+use lib.ListN.{length, length-append}
 use Rattle.model.specs.Object.{Object, join, bit_c, bit_o, bit_r, field_a, field_prec}
-use Rattle.model.specs.Reading.{data_objects}
 use Rattle.model.specs.Listing.{line, object_line, object_lines}
-use Rattle.wire.specs.declared.objects.Header.{Header}
-use Rattle.wire.specs.declared.objects.Cursor.{Cursor}
-use Rattle.wire.specs.declared.objects.Step.TheVariants.{Found, CutShort, End}
-use Rattle.wire.specs.Step.{first_cursor, step_at, object_in}
 use Rattle.listing.specs.Listed.{text_room}
-use Rattle.wire.specs.Put.{Put}
-use Rattle.listing.specs.Line.{header_line}
-use Rattle.wire.proofs.StepLaws.{step_inside}
-use Rattle.wire.proofs.WalkLaws.{Walked, walk_first, walk_found, walk_end, walk_short, walk_room}
-use Rattle.wire.proofs.PutLaws.{put_append, put_length}
-use Rattle.listing.proofs.PutLaws.{digits}
+use Rattle.listing.specs.Puts.{Puts}
+use Rattle.listing.proofs.PutLaws.{puts_append, digits}
 
 -- ---- how long they are
 
@@ -27,63 +16,47 @@ use Rattle.listing.proofs.PutLaws.{digits}
 line_room : (t c o r a p n : ℕ) → c < 2 → o < 2 → r < 2 → a < 8 → p < 16 → 4 * length (line t (c ∷ o ∷ r ∷ a ∷ p ∷ n ∷ [])) ≤ 17 * (4 + n)
 line_room t c o r a p n hc ho hr ha hp = simp length-append (omega (arith, digits t, digits c, digits o, digits r, digits a, digits p, digits n))
 
+object_room : (o : Object) → 4 * length (object_line o) ≤ 17 * (4 + length o.body)
+unfolding object_line
+object_room o =
+    line_room o.type (bit_c o) (bit_o o) (bit_r o) (field_a o) (field_prec o) (length o.body) (omega arith) (omega arith) (omega arith) (omega arith) (omega arith)
+
 -- and so do the lines of objects
 pub lines_room : (os : List Object) → 4 * length (object_lines os) ≤ 17 * length (join os)
-unfolding object_lines object_line join
+unfolding object_lines join
 lines_room [] = omega arith
-lines_room (o ∷ os) =
-    let here = line_room o.type (bit_c o) (bit_o o) (bit_r o) (field_a o) (field_prec o) (length o.body) (omega arith) (omega arith) (omega arith) (omega arith) (omega arith) in
-    let rest = lines_room os in
-    omega (arith, length-append (object_line o) (object_lines os), length-append o.body (join os))
+lines_room (o ∷ os) = omega (arith, object_room o, lines_room os, length-append (object_line o) (object_lines os), length-append o.body (join os))
 
--- ---- the walk that lists a container
+-- ---- the objects that are listed so far
 
--- the line of an object that a step finds
-line_found : (bs : List ℕ) (h : Header) (start end : ℕ) → start ≤ end → end ≤ length bs → object_line (object_in bs h start end) ≡ header_line h (end - start)
-unfolding object_line
-line_found bs h start end l m = rw (length-take-le (end - start) (drop start bs) (rw length-drop (omega arith)))
+-- so much of the text of objects is put, and these are left
+pub record Lines (os left : List Object) (output : List ℕ) (used : ℕ) (now : List ℕ) : Type 0 where
+  pub text : List ℕ
+  pub whole : object_lines os ≡ text ++ object_lines left
+  pub room : 4 * used + 17 * length (join left) ≤ 17 * length (join os)
+  pub put : Puts output 0 text now used
 
--- one line more
-lines_append : (es : List Object) (o : Object) → object_lines (es ++ (o ∷ [])) ≡ object_lines es ++ object_line o
+pub lines_none : (os : List Object) (output : List ℕ) → Lines os os output 0 output
+lines_none os output = record { text = []; whole = refl; room = omega arith; put = record { reached = refl; room = refl; text = refl; rest = refl } }
+
+-- one object more
+pub lines_more : {os left : List Object} {o : Object} {output now more : List ℕ} {used end : ℕ} → Lines os (o ∷ left) output used now
+    → Puts now used (object_line o) more end → Lines os left output end more
+unfolding object_lines join
+lines_more {os} {left} {o} w q = record {
+  text = w.text ++ object_line o;
+  whole = w.whole ∙ sym (append_assoc w.text (object_line o) (object_lines left));
+  room = omega (arith, w.room, q.reached, object_room o, length-append o.body (join left));
+  put = puts_append w.put q;
+}
+
+-- there is room for its line, and a byte holds the length of its body
+pub lines_fit : {os left : List Object} {o : Object} {output now : List ℕ} {used : ℕ} → Lines os (o ∷ left) output used now → length (join os) ≤ 255
+    → text_room ≤ length output → (used + 28 ≤ length now) × (length o.body ≤ 255)
+unfolding join
+lines_fit {os} {left} {o} w h l = omega (arith, w.room, w.put.room, length-append o.body (join left))
+
+-- all are listed
+pub lines_all : {os : List Object} {output now : List ℕ} {used : ℕ} → Lines os [] output used now → Puts output 0 (object_lines os) now used
 unfolding object_lines
-lines_append [] o = append-nil (object_line o)
-lines_append (e ∷ es) o = rw (lines_append es o, append_assoc (object_line e) (object_lines es) (object_line o))
-
--- the lines of the objects before a cursor, put into an output
-pub record Lines (bs output : List ℕ) (p : Cursor) (used : ℕ) (left : List ℕ) : Type 0 where
-  pub earlier : List Object
-  pub walked : Walked bs p earlier
-  pub put : Put output 0 (object_lines earlier) used left
-
--- there are none before the first cursor
-pub lines_first : (bs output : List ℕ) → Lines bs output first_cursor 0 output
-unfolding object_lines
-lines_first bs output = record { earlier = []; walked = walk_first bs; put = record { end = refl; written = refl } }
-
--- behind an object there is its line more
-pub lines_found : {bs output left more : List ℕ} {p n : Cursor} {used behind : ℕ} {h : Header} {start end : ℕ} → Lines bs output p used left
-    → step_at bs p ≡ Found h start end n → Put left used (header_line h (end - start)) behind more → Lines bs output n behind more
-lines_found {bs} {output} {left} {more} {p} {n} {used} {behind} {h} {start} {end} w e q =
-    let f = step_inside bs p e in
-    let o = object_in bs h start end in
-    let one : Put left used (object_line o) behind more = rw (line_found bs h start end f.0 f.1.0) q in
-    record {
-      earlier = w.earlier ++ (o ∷ []);
-      walked = walk_found bs p w.earlier w.walked e;
-      put = rw (lines_append w.earlier o) (put_append w.put one);
-    }
-
--- there is room for an object's line, and a byte holds the length of its body
-pub lines_fit : {bs output left : List ℕ} {p n : Cursor} {used : ℕ} {h : Header} {start end : ℕ} → Lines bs output p used left
-    → step_at bs p ≡ Found h start end n → length bs ≤ 257 → text_room ≤ length output → (used + 28 ≤ length left) × (end - start < 256)
-lines_fit {bs} {p = p} w e l m = omega (arith, w.put.end, put_length w.put, lines_room w.earlier, walk_room bs p w.earlier w.walked e)
-
--- at the end they are the lines of the container's objects
-pub lines_end : {bs output left : List ℕ} {p : Cursor} {used : ℕ} → Lines bs output p used left → step_at bs p ≡ End
-    → (os : List Object) → data_objects bs ≡ some os → Put output 0 (object_lines os) used left
-lines_end {bs} {p = p} w e os q = let s : os ≡ w.earlier = cc (walk_end bs p w.earlier w.walked e) in rw s w.put
-
--- where something is cut short, the container's objects are not whole
-pub lines_cut : {bs output left : List ℕ} {p : Cursor} {used : ℕ} → Lines bs output p used left → step_at bs p ≡ CutShort
-    → (os : List Object) → data_objects bs ≡ some os → Put output 0 (object_lines os) used left
-lines_cut {bs} {p = p} w e os q = absurd (none-ne-some os (sym (walk_short bs p w.earlier w.walked e) ∙ q))
+lines_all w = rw (w.whole, append-nil w.text) w.put

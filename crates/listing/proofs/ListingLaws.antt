@@ -1,13 +1,11 @@
 -- The text of what was read.
 use mathlib.Core.Path.{◌≡◌, refl, sym, ap, ◌∙◌}
-use Prim.Native.Nat.{ℕ, ◌+◌, ◌≤◌}
-use native.Mathlib.Nat.{zero-add}
+use Prim.Native.Nat.{ℕ, suc, ◌+◌, ◌-◌, ◌≤◌}
 use native.Mathlib.Omega.{arith}
 use mathlib.Core.Bool.{Bool, true, false, cond}
 use mathlib.Core.List.{List, [], ◌∷◌, ◌++◌}
-use mathlib.Core.Option.{some}
-use lib.ListN.{length, take, drop, get_or, length-append}
-use lib.Seq.{sets-eq, take_all, get_or-take, length-take-le}
+use lib.ListN.{length, take, drop, get_or, length-append, length-drop, take-append-drop}
+use lib.Seq.{take_all, get_or-take, length-take-le}
 use lib.Dec.{ltb}
 use borrow.Author.Tests.{le-ltb, ltb-true, ltb-false}
 use Rattle.model.specs.Object.{Object, join}
@@ -17,13 +15,14 @@ use Rattle.model.specs.RoundTrip.{Bytes}
 use Rattle.model.specs.Listing.{newline, decimal, line, object_lines, refused_word, listing_of, listing}
 use Rattle.model.proofs.ByteLaws.{first_byte}
 use Rattle.model.proofs.ReadingLaws.{frame_short, framed_short, reading_objects}
-use Rattle.wire.specs.declared.container.Reading.TheVariants.{Refused, WellFormed}
-use Rattle.listing.specs.declared.Listed.{Listed}
-use Rattle.listing.specs.declared.Listed.TheVariants.{Text, ShortOutput}
-use Rattle.wire.specs.Reading.{reading_of}
-use Rattle.listing.specs.Listed.{text_room, listed, listed_in, TextFits, ListingOfFront}
-use Rattle.wire.specs.declared.container.Told.{Told}
-use Rattle.wire.specs.Put.{Put}
+use Rattle.wire.specs.Front.{front}
+use Rattle.wire.specs.Reading.{Refused, WellFormed, reading_of}
+use Rattle.wire.proofs.FrontLaws.{split-front}
+use Rattle.listing.specs.declared.ShortOutput.{ShortOutput}
+use Rattle.std.proofs.Common.{Result, Ok}
+use Rattle.listing.specs.Listed.{text_room, too_short, listed, listed_in, TextFits, ListingOfFront}
+use Rattle.model.specs.declared.Summary.{Summary}
+use Rattle.listing.specs.Puts.{Puts}
 use Rattle.listing.proofs.PutLaws.{digits}
 use Rattle.listing.proofs.LineLaws.{lines_room}
 
@@ -50,49 +49,55 @@ pub text_fits : TextFits
 text_fits bs h = text_short bs (byte_one bs h)
 
 -- the objects of a container that code reads as well-formed
-well_formed_lem : (bs : List ℕ) {count : ℕ} {k : Bool} {told : Told} → reading_of (reading bs) ≡ WellFormed count k told → (os : List Object) × (reading bs ≡ model.well_formed os)
+well_formed_lem : (bs : List ℕ) {count : ℕ} {k : Bool} {told : Summary} → reading_of (reading bs) ≡ WellFormed count k told → (os : List Object) × (reading bs ≡ model.well_formed os)
 well_formed_lem bs {count} {k} {told} e = go (reading bs) refl e
   where
     go : (m : model.Reading) → reading bs ≡ m → reading_of m ≡ WellFormed count k told → (os : List Object) × (reading bs ≡ model.well_formed os)
     go (model.refused n p) f e = absurd (let z : ◌≡◌ {A = ℕ} 0 1 = cc in omega arith)
     go (model.well_formed os) f e = (os, f)
 
--- it has 257 bytes at most
-pub well_short : (bs : List ℕ) {count : ℕ} {k : Bool} {told : Told} → reading_of (reading bs) ≡ WellFormed count k told → get_or bs 1 0 ≤ 255 → length bs ≤ 257
-well_short bs e l = let (os, r) = well_formed_lem bs e in (data_short bs os r l).1
+-- they stand behind its first two bytes, and their lines are its text
+pub record WellRead (bs ds : List ℕ) : Type 0 where
+  pub framed : 2 ≤ length bs
+  pub few : length (join (front ds)) ≤ 255
+  pub text : object_lines (front ds) ≡ listing bs
 
--- its text is the lines of its objects
-pub well_text : (bs : List ℕ) {output left : List ℕ} {count r : ℕ} {k : Bool} {told : Told} → reading_of (reading bs) ≡ WellFormed count k told
-    → ((os : List Object) → data_objects bs ≡ some os → Put output 0 (object_lines os) r left) → Put output 0 (listing bs) r left
+pub well_read : (bs : List ℕ) {count : ℕ} {k : Bool} {told : Summary} → reading_of (reading bs) ≡ WellFormed count k told → get_or bs 1 0 ≤ 255
+    → WellRead bs (take (length bs - 2) (drop 2 bs))
 unfolding listing
-well_text bs e q = let (os, r) = well_formed_lem bs e in rw r (q os (reading_objects bs os r).objects)
+well_read bs e l =
+    let (os, r) = well_formed_lem bs e in
+    let a = reading_objects bs os r in
+    let s : length bs ≡ suc (suc (length (join os))) = ap length a.whole in
+    let d : take (length bs - 2) (drop 2 bs) ≡ drop 2 bs = take_all (length bs - 2) (drop 2 bs) (rw length-drop (omega arith)) in
+    let f : front (take (length bs - 2) (drop 2 bs)) ≡ os = rw d (split-front (drop 2 bs) os a.objects).0 in
+    record { framed = omega arith; few = rw f (data_short bs os r l).0; text = rw (f, r) refl }
 
 -- the text of a container that code reads as refused
 pub refused_text : (bs : List ℕ) {output left : List ℕ} {n place r : ℕ} → reading_of (reading bs) ≡ Refused n place
-    → Put output 0 (refused_word ++ line n []) r left → Put output 0 (listing bs) r left
+    → Puts output 0 (refused_word ++ line n []) left r → Puts output 0 (listing bs) left r
 unfolding listing
 refused_text bs {output} {left} {n} {place} {r} e q = go (reading bs) refl e
   where
-    go : (m : model.Reading) → reading bs ≡ m → reading_of m ≡ Refused n place → Put output 0 (listing_of (reading bs)) r left
+    go : (m : model.Reading) → reading bs ≡ m → reading_of m ≡ Refused n place → Puts output 0 (listing_of (reading bs)) left r
     go (model.refused k p) f e = let s : k ≡ n = cc in rw (f, s) q
     go (model.well_formed os) f e = absurd (let z : ◌≡◌ {A = ℕ} 0 1 = cc in omega arith)
 
 -- a container's text, put into an output with room for any, is the answer and what is left of the output
-pub listed_by : (bs output : List ℕ) {left : List ℕ} {r : ℕ} → text_room ≤ length output → get_or bs 1 0 ≤ 255 → Put output 0 (listing bs) r left
-    → (Text r ≡ listed bs (length output)) × (left ≡ listed_in bs output)
+pub listed_by : (bs output : List ℕ) {left : List ℕ} {r : ℕ} → text_room ≤ length output → get_or bs 1 0 ≤ 255 → Puts output 0 (listing bs) left r
+    → (Ok r ≡ listed bs (length output)) × (left ≡ listed_in bs output)
 unfolding listed listed_in
 listed_by bs output {left} {r} l m p =
-    let z : 0 + length (listing bs) ≡ length (listing bs) = zero-add (length (listing bs)) in
-    let fits : 0 + length (listing bs) ≤ length output = omega (arith, text_short bs m) in
-    let e : left ≡ listing bs ++ drop (length (listing bs)) output = p.written ∙ sets-eq (listing bs) output 0 fits ∙ rw z in
-    rw (le-ltb (length output) text_room l) (ap Text (p.end ∙ z), e)
+    let size : r ≡ length (listing bs) = omega (arith, p.reached) in
+    let all : left ≡ listing bs ++ drop (length (listing bs)) output = sym (take-append-drop r left) ∙ rw (p.text, p.rest, size) refl in
+    rw (le-ltb (length output) text_room l) (ap Ok size, all)
 
 -- a text that is answered lies in the output
-pub listed_inside : (bs output left : List ℕ) {r : Listed} {size : ℕ} → r ≡ listed bs (length output) → r ≡ Text size → left ≡ listed_in bs output → size ≤ length left
+pub listed_inside : (bs output left : List ℕ) {r : Result ℕ ShortOutput} {size : ℕ} → r ≡ listed bs (length output) → r ≡ Ok size → left ≡ listed_in bs output → size ≤ length left
 unfolding listed listed_in
 listed_inside bs output left {r} {size} e t w = go (ltb (length output) text_room) (sym e ∙ t) w
   where
-    go : (b : Bool) → cond b ShortOutput (Text (length (listing bs))) ≡ Text size → left ≡ cond b output (listing bs ++ drop (length (listing bs)) output) → size ≤ length left
+    go : (b : Bool) → cond b too_short (Ok (length (listing bs))) ≡ Ok size → left ≡ cond b output (listing bs ++ drop (length (listing bs)) output) → size ≤ length left
     go true q w = absurd (let z : ◌≡◌ {A = ℕ} 0 1 = cc in omega arith)
     go false q w =
         let s : length (listing bs) ≡ size = cc in

@@ -1,17 +1,20 @@
 -- The text that lists a container, in an output.
-use Rattle.std.specs.Prelude.{◌≡◌, ℕ, ◌≤◌, cond, List, ◌++◌, length, take, drop, ltb}
+use Rattle.std.specs.Prelude.{◌≡◌, ℕ, ◌≤◌, cond, List, ◌++◌, length, take, drop, ltb, Result, Ok, Err}
 use Rattle.model.specs.RoundTrip.{Bytes}
 use Rattle.model.specs.Listing.{listing}
-use Rattle.listing.specs.declared.Listed.{Listed}
-use Rattle.listing.specs.declared.Listed.TheVariants.{Text, ShortOutput}
+use Rattle.listing.specs.declared.ShortOutput.{ShortOutput}
 
 -- the length of output that holds the text of any container
 abbrev pub text_room : ℕ
 text_room = 1100
 
+-- what is answered for an output that is too short for every text
+abbrev pub too_short : Result ℕ ShortOutput
+too_short = Err (record {})
+
 -- the answer, by the container and the length of the output
-unfoldable pub listed : List ℕ → (room : ℕ) → Listed
-listed bs room = cond (ltb room text_room) ShortOutput (Text (length (listing bs)))
+unfoldable pub listed : List ℕ → (room : ℕ) → Result ℕ ShortOutput
+listed bs room = cond (ltb room text_room) too_short (Ok (length (listing bs)))
 
 -- the output as it is left: the text and the bytes behind it as they were; or untouched
 unfoldable pub listed_in : List ℕ → (output : List ℕ) → List ℕ

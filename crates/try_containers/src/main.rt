@@ -1,6 +1,6 @@
 // Reads lines of a name and the bytes of a container in hexadecimal, a space before each, and writes for each the name and what
-// reading the container answers: the bar and the index of its object, or the number of objects, the count of the HP metric, and the
-// latency and the ETX that are added up along the path, where they are not 0.
+// reading the container answers: the bar and the index of its object, or the number of objects, the count of the HP metric, and
+// the latency and the ETX that are added up along the path, where they are not 0.
 // A line of another form, or with a container of more than 512 bytes, has the answer NAME `unreadable`.
 // It takes the first 65,536 bytes of its input.
 #![tactic(auto)]
@@ -8,12 +8,14 @@
 use arrayvec::ArrayVec;
 use std::io;
 use std::io::{Read, Stdout, Write};
-use wire::{Reading, Told};
+use wire::Reading;
 
-// Writes what a container tells the tests of its constraints.
-fn say_told(out: &mut Stdout, told: Told) -> io::Result<()> {
-    if 0 < told.hops {
-        write!(out, " hops {}", told.hops - 1)?;
+// Writes what a container holds, and what it tells the tests of its constraints.
+fn say_reading(out: &mut Stdout, reading: &Reading) -> io::Result<()> {
+    write!(out, " objects {}", reading.count)?;
+    let told = reading.summary;
+    if let Some(hops) = told.hops {
+        write!(out, " hops {hops}")?;
     }
     if 0 < told.latency {
         write!(out, " latency {}", told.latency)?;
@@ -22,23 +24,6 @@ fn say_told(out: &mut Stdout, told: Told) -> io::Result<()> {
         write!(out, " etx {}", told.etx)?;
     }
     Ok(())
-}
-
-// Writes what reading a container answers.
-fn say_reading(out: &mut Stdout, container: &[u8]) -> io::Result<()> {
-    match wire::read(container) {
-        Reading::Refused { number, place } => {
-            write!(out, " refused {number}")?;
-            if place != 65535 {
-                write!(out, " at {place}")?;
-            }
-        }
-        Reading::WellFormed { count, told, .. } => {
-            write!(out, " objects {count}")?;
-            say_told(out, told)?;
-        }
-    }
-    writeln!(out)
 }
 
 // One line: its name, then what reading the bytes behind it answers.
@@ -50,7 +35,16 @@ fn run_line(out: &mut Stdout, line: &[u8]) -> io::Result<()> {
     if n * 3 != behind.len() {
         return writeln!(out, " unreadable");
     }
-    say_reading(out, &bytes[..n])
+    match wire::read(&bytes[..n]) {
+        Ok(reading) => say_reading(out, &reading)?,
+        Err(bar) => {
+            write!(out, " refused {}", bar.number())?;
+            if let Some(place) = bar.place() {
+                write!(out, " at {place}")?;
+            }
+        }
+    }
+    writeln!(out)
 }
 
 fn main(rt: HostRuntime) -> io::Result<()> {

@@ -1,115 +1,134 @@
--- The verdict by what reading a run gives.
-use mathlib.Core.Path.{◌≡◌, refl, sym, ap, ◌∙◌}
-use Prim.Native.Nat.{ℕ, zero, suc, ◌+◌, ◌-◌, ◌≤◌, ◌<◌}
-use native.Mathlib.Nat.{add-sub_cancel_left}
+-- The verdict by what each step answers: the numbers, the run, its reading, its constraints, the rank.
+use mathlib.Core.Path.{◌≡◌, refl, sym, ◌∙◌}
+use Prim.Native.Nat.{ℕ}
 use native.Mathlib.Omega.{arith}
-use mathlib.Core.Bool.{Bool, true, false}
+use mathlib.Core.Bool.{Bool, true, false, cond}
 use mathlib.Core.List.{List, [], ◌∷◌}
-use lib.ListN.{length, take, drop}
-use borrow.Author.Tests.{lt-ltb, le-ltb}
+use Rattle.std.specs.Prelude.{Result, Ok, Err}
 use Rattle.model.specs.declared.Own.{Own}
 use Rattle.model.specs.declared.Neighbour.{Neighbour}
 use Rattle.model.specs.declared.Candidate.{Candidate}
-use Rattle.model.specs.Number.{Quantity}
-use Rattle.std.specs.Prelude.{Some, None}
 use Rattle.model.specs.declared.Summary.{Summary}
-use Rattle.model.specs.Verdict.{Barred}
-use Rattle.model.specs.Number.{any_of, first_of}
+use Rattle.model.specs.declared.verdicts.Bar.{Bar}
+use Rattle.model.specs.declared.verdicts.Bar.TheVariants as bar
+use Rattle.model.specs.declared.verdicts.ObjectBar.TheVariants as at
+use Rattle.model.specs.Bars.{bar_number, bar_place}
+use Rattle.model.specs.Number.{any_of, first_of, index_of}
 use Rattle.model.specs.Object.{Object}
 use Rattle.model.specs.Reading.{no_place, Reading, refused, well_formed}
 use Rattle.model.specs.Run.{read_run}
 use Rattle.model.specs.Constraint.{summary, constraint_bar, mandatory}
-use Rattle.model.specs.Verdict.{bad_numbers, rank_bar, judge_rank, judge_objects, judge_reading, verdict}
+use Rattle.model.specs.Verdict.{Barred, bad_numbers, ahead_of, outside, run_of, rank_bar, judge_rank, judge_objects, judge_reading, verdict}
 use Rattle.model.proofs.BoolLaws.{neither}
-use Rattle.model.proofs.FirstLaws.{index_none}
-use Rattle.wire.specs.Reading.{hops_of, told_of, reading_of}
-use Rattle.wire.specs.declared.container.Told.{Told}
-use Rattle.wire.specs.declared.container.Reading.TheVariants.{Refused, WellFormed}
-use Rattle.verdict.specs.declared.candidate.Barring.{Barring}
-use Rattle.verdict.specs.Judged.{ReadAs, BarsFirst}
+use Rattle.wire.specs.Reading.{Refused, WellFormed, reading_of}
+use Rattle.verdict.specs.Judged.{numbers_told, run_in, FirstBarring, offered}
 
--- a run that is refused
-pub judged_refused : (own : Own) (c : Neighbour) (x : Reading) (n p : ℕ) → Refused n p ≡ reading_of x → Barred n p ≡ judge_reading own c x
-judged_refused own c (refused m q) n p e = cc
-judged_refused own c (well_formed os) n p e = absurd (let z : ◌≡◌ {A = ℕ} 0 1 = cc in omega arith)
-
--- a run that is read has objects, and what was read is theirs
-pub read_objects_lem : (x : Reading) (n : ℕ) (k : Bool) (t : Told) → WellFormed n k t ≡ reading_of x → (os : List Object) × (x ≡ well_formed os)
-read_objects_lem (refused m q) n k t e = absurd (let z : ◌≡◌ {A = ℕ} 0 1 = cc in omega arith)
-read_objects_lem (well_formed os) n k t e = (os, refl)
-
-pub read_as : (x : Reading) (n : ℕ) (k : Bool) (t : Told) → WellFormed n k t ≡ reading_of x → (os : List Object) → x ≡ well_formed os → ReadAs n k t os
-read_as x n k t e os q =
-    let r : WellFormed n k t ≡ WellFormed (length os) (any_of mandatory os) (told_of (summary os)) = e ∙ ap reading_of q in
-    record { objects = cc; mandatories = cc; tells = cc }
-
--- a summary by what it tells
-pub summary_by : (s s' : Summary) → told_of s ≡ told_of s' → s ≡ s'
-summary_by s s' e =
-    let h : hops_of s.hops ≡ hops_of s'.hops = ap (λ (t : Told). t.hops) e in
-    let l : s.latency ≡ s'.latency = ap (λ (t : Told). t.latency) e in
-    let x : s.etx ≡ s'.etx = ap (λ (t : Told). t.etx) e in
-    let same : record { hops = s.hops; latency = s.latency; etx = s.etx } ≡ s' = rw (go s.hops s'.hops h, l, x) in
-    same
-  where
-    go : (x y : Quantity) → hops_of x ≡ hops_of y → x ≡ y
-    go (Some v) (Some w) e = let z : v ≡ w = omega arith in rw z
-    go (Some v) None e = absurd (omega arith)
-    go None (Some w) e = absurd (omega arith)
-    go None None e = refl
-
--- what is told, by its count
-pub told_with : (t : Told) (n : ℕ) → t.hops ≡ n → record { hops = n; latency = t.latency; etx = t.etx } ≡ t
-told_with t n e = ap (λ (m : ℕ). record { hops = m; latency = t.latency; etx = t.etx }) (sym e)
+-- a well-formed run has its objects alone
+well_same : {x : Reading} (os ps : List Object) → x ≡ well_formed os → x ≡ well_formed ps → os ≡ ps
+well_same os ps e f = cc
 
 -- without mandatory constraints no object bars
-pub no_mandatory : (c : Neighbour) (s : Summary) (os : List Object) → false ≡ any_of mandatory os → first_of (constraint_bar c s) os ≡ 0
+no_mandatory : (c : Neighbour) (s : Summary) (os : List Object) → false ≡ any_of mandatory os → first_of (constraint_bar c s) os ≡ 0
 unfolding first_of constraint_bar
 no_mandatory c s [] e = refl
 no_mandatory c s (o ∷ os) e = let (a, b) = neither (mandatory o) (any_of mandatory os) (sym e) in rw a (no_mandatory c s os (sym b))
 
-module _ {n : ℕ} {k : Bool} {t : Told} (c : Neighbour) where
-  pub bars_none : (os : List Object) → ReadAs n k t os → k ≡ false → BarsFirst c (summary os) os (record { number = 0; place = n })
-  bars_none os w e =
-      let none = no_mandatory c (summary os) os (sym e ∙ w.mandatories) in
-      record { number = sym none; place = w.objects ∙ sym (index_none (constraint_bar c (summary os)) os none) }
-
-  -- the tests with the summary that code makes
-  pub bars_by : (s : Summary) (os : List Object) (b : Barring) → ReadAs n k t os → told_of s ≡ t → BarsFirst c s os b → BarsFirst c (summary os) os b
-  bars_by s os b w e f = rw (summary_by s (summary os) (e ∙ w.tells)) at f
-
-module _ (own : Own) (c : Neighbour) (x : Reading) (n : ℕ) (k : Bool) (t : Told) (b : Barring) (e : WellFormed n k t ≡ reading_of x)
-    (f : (os : List Object) → x ≡ well_formed os → ReadAs n k t os → BarsFirst c (summary os) os b) where
-  by_bar : (v : _) → ((os : List Object) → v ≡ judge_objects own c b.number b.place) → v ≡ judge_reading own c x
-  by_bar v g =
-      let (os, q) = read_objects_lem x n k t e in
-      let w : BarsFirst c (summary os) os b = f os q (read_as x n k t e os q) in
-      rw (q, ← w.number, ← w.place) (g os)
-
-  -- an object bars
-  pub judged_object : (b.number ≡ 0 → ⊥) → Barred b.number b.place ≡ judge_reading own c x
-  judged_object h = by_bar (Barred b.number b.place) (λ os. go b.number h)
-    where
-      go : (m : ℕ) → (m ≡ 0 → ⊥) → Barred m b.place ≡ judge_objects own c m b.place
-      go zero h = absurd (h refl)
-      go (suc m) h = refl
-
-  -- none does
-  pub judged_clear : b.number ≡ 0 → judge_rank own c (rank_bar own c) ≡ judge_reading own c x
-  judged_clear z = by_bar (judge_rank own c (rank_bar own c)) (λ os. rw z)
+-- a bar has a number
+barred_by : (own : Own) (c : Neighbour) (b : Bar) → Barred (bar_number b) (bar_place b) ≡ judge_objects own c (bar_number b) (bar_place b)
+barred_by own c bar.Numbers = refl
+barred_by own c bar.Outside = refl
+barred_by own c bar.Frame = refl
+barred_by own c bar.Overrun = refl
+barred_by own c (bar.AtObject at.Body p) = refl
+barred_by own c (bar.AtObject at.Repeat p) = refl
+barred_by own c (bar.AtObject at.Recorded p) = refl
+barred_by own c (bar.AtObject at.Unknown p) = refl
+barred_by own c (bar.AtObject at.Unmet p) = refl
+barred_by own c bar.Rank = refl
+barred_by own c bar.Increase = refl
+barred_by own c bar.Option = refl
+barred_by own c bar.Containers = refl
 
 -- ---- bars 11 and 12
 
 module _ (own : Own) (lent : List ℕ) (c : Candidate) where
-  pub judged_11 : bad_numbers own c.neighbour ≡ true → Barred 11 no_place ≡ verdict own lent c
-  unfolding verdict
-  judged_11 e = rw e
+  pub judged_11 : (b : Bar) → Err b ≡ numbers_told own c.neighbour → offered (Err b) ≡ verdict own lent c
+  unfolding numbers_told verdict
+  judged_11 b e = go (bad_numbers own c.neighbour) e
+    where
+      go : (v : Bool) → ◌≡◌ {A = Result ℕ Bar} (Err b) (cond v (Err bar.Numbers) (Ok (ahead_of own c.neighbour)))
+          → offered (Err b) ≡ cond v (Barred 11 no_place) (cond (outside lent c) (Barred 12 no_place) (judge_reading own c.neighbour (read_run (run_of lent c))))
+      go true e = let q : b ≡ bar.Numbers = cc in rw q
+      go false e = absurd (let z : ◌≡◌ {A = ℕ} 0 1 = cc in omega arith)
 
-  pub judged_12 : bad_numbers own c.neighbour ≡ false → length lent < c.start + c.size → Barred 12 no_place ≡ verdict own lent c
-  unfolding verdict
-  judged_12 e l = rw (e, lt-ltb (length lent) (c.start + c.size) l)
+  -- past bar 11
+  module _ (a : ℕ) (e : Ok a ≡ numbers_told own c.neighbour) where
+    pub in_range : (bad_numbers own c.neighbour ≡ false) × (a ≡ ahead_of own c.neighbour)
+    unfolding numbers_told
+    in_range = go (bad_numbers own c.neighbour) e
+      where
+        go : (v : Bool) → ◌≡◌ {A = Result ℕ Bar} (Ok a) (cond v (Err bar.Numbers) (Ok (ahead_of own c.neighbour))) → (v ≡ false) × (a ≡ ahead_of own c.neighbour)
+        go true e = absurd (let z : ◌≡◌ {A = ℕ} 0 1 = cc in omega arith)
+        go false e = (refl, cc)
 
-  pub judged_inside : bad_numbers own c.neighbour ≡ false → c.start + c.size ≤ length lent
-      → judge_reading own c.neighbour (read_run (take (c.start + c.size - c.start) (drop c.start lent))) ≡ verdict own lent c
-  unfolding verdict
-  judged_inside e l = rw (e, le-ltb (length lent) (c.start + c.size) l, add-sub_cancel_left c.start c.size)
+    pub judged_12 : (b : Bar) → Err b ≡ run_in lent c → offered (Err b) ≡ verdict own lent c
+    unfolding run_in verdict
+    judged_12 b f = rw in_range.0 (go (outside lent c) f)
+      where
+        go : (v : Bool) → ◌≡◌ {A = Result (List ℕ) Bar} (Err b) (cond v (Err bar.Outside) (Ok (run_of lent c)))
+            → offered (Err b) ≡ cond v (Barred 12 no_place) (judge_reading own c.neighbour (read_run (run_of lent c)))
+        go true f = let q : b ≡ bar.Outside = cc in rw q
+        go false f = absurd (let z : ◌≡◌ {A = ℕ} 0 1 = cc in omega arith)
+
+    -- past bar 12
+    module _ (run : List ℕ) (f : Ok run ≡ run_in lent c) where
+      inside : judge_reading own c.neighbour (read_run run) ≡ verdict own lent c
+      unfolding run_in verdict
+      inside = rw in_range.0 (go (outside lent c) f)
+        where
+          go : (v : Bool) → ◌≡◌ {A = Result (List ℕ) Bar} (Ok run) (cond v (Err bar.Outside) (Ok (run_of lent c)))
+              → judge_reading own c.neighbour (read_run run) ≡ cond v (Barred 12 no_place) (judge_reading own c.neighbour (read_run (run_of lent c)))
+          go true f = absurd (let z : ◌≡◌ {A = ℕ} 0 1 = cc in omega arith)
+          go false f = let q : run ≡ run_of lent c = cc in rw q
+
+      -- a run that is refused
+      pub judged_refused : (b : Bar) → Refused (bar_number b) (bar_place b) ≡ reading_of (read_run run) → offered (Err b) ≡ verdict own lent c
+      judged_refused b r = go (read_run run) r ∙ inside
+        where
+          go : (x : Reading) → Refused (bar_number b) (bar_place b) ≡ reading_of x → Barred (bar_number b) (bar_place b) ≡ judge_reading own c.neighbour x
+          go (refused m q) r = cc
+          go (well_formed os) r = absurd (let z : ◌≡◌ {A = ℕ} 0 1 = cc in omega arith)
+
+      -- the first object that bars
+      by_first : (b : Bar) (os : List Object) (s : Summary) → read_run run ≡ well_formed os → s ≡ summary os → bar_number b ≡ first_of (constraint_bar c.neighbour s) os
+          → bar_place b ≡ index_of (constraint_bar c.neighbour s) os → Barred (bar_number b) (bar_place b) ≡ judge_reading own c.neighbour (read_run run)
+      by_first b os s q t i p = rw (q, ← t, ← i, ← p) (barred_by own c.neighbour b)
+
+      -- past its reading
+      module _ (n : ℕ) (k : Bool) (s : Summary) (r : WellFormed n k s ≡ reading_of (read_run run)) where
+        well : (os : List Object) × (read_run run ≡ well_formed os) × (k ≡ any_of mandatory os) × (s ≡ summary os)
+        well = go (read_run run) r
+          where
+            go : (x : Reading) → WellFormed n k s ≡ reading_of x → (os : List Object) × (x ≡ well_formed os) × (k ≡ any_of mandatory os) × (s ≡ summary os)
+            go (refused m q) r = absurd (let z : ◌≡◌ {A = ℕ} 0 1 = cc in omega arith)
+            go (well_formed os) r = (os, refl, cc, cc)
+
+        -- an object bars
+        pub judged_object : (b : Bar) → FirstBarring c.neighbour s run (Err b) → offered (Err b) ≡ verdict own lent c
+        judged_object b f = let (os, q, m, t) = well in let (i, p) = f os q in by_first b os s q t i p ∙ inside
+
+        by_none : ((os : List Object) → read_run run ≡ well_formed os → 0 ≡ first_of (constraint_bar c.neighbour (summary os)) os)
+            → judge_rank own c.neighbour (rank_bar own c.neighbour) ≡ verdict own lent c
+        by_none f =
+            let (os, q, m, t) = well in
+            let g : judge_rank own c.neighbour (rank_bar own c.neighbour) ≡ judge_reading own c.neighbour (read_run run) = rw (q, ← f os q) in
+            g ∙ inside
+
+        -- none does
+        pub clear_tested : ((os : List Object) → read_run run ≡ well_formed os → 0 ≡ first_of (constraint_bar c.neighbour s) os)
+            → judge_rank own c.neighbour (rank_bar own c.neighbour) ≡ verdict own lent c
+        clear_tested f = by_none (λ os q. let (os', q', m, t) = well in let z : os ≡ os' = well_same os os' q q' in rw (z, ← t) (f os' q'))
+
+        -- none is a mandatory constraint
+        pub clear_untested : k ≡ false → judge_rank own c.neighbour (rank_bar own c.neighbour) ≡ verdict own lent c
+        clear_untested z = by_none (λ os q. let (os', q', m, t) = well in let w : os ≡ os' = well_same os os' q q' in rw w (sym (no_mandatory c.neighbour (summary os') os' (sym z ∙ m))))

@@ -1,5 +1,4 @@
+pub mod HoldLaws
+pub mod FiniteLaws
 pub mod PassLaws
 pub mod JudgeLaws
-pub mod AheadLaws
-pub mod GrowthLaws
-pub mod HoldLaws

@@ -1,3 +1,1 @@
 pub mod Judged
-pub mod Growth
-pub mod Ahead

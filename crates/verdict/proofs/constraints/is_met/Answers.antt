@@ -1,96 +1,45 @@
-use Rattle.model.specs.Object.{kind_of}
-use Rattle.model.proofs.TabledLaws.{fixed_base, fixed_whole}
-use Rattle.model.proofs.ConstraintLaws.{met_nsa_lem, met_ne_lem, met_hp, met-throughput, met-latency, met-lql, met-etx, met-colour, met_unknown, past_known}
-use Rattle.wire.proofs.NumberLaws.{number_in_lem}
-use mathlib.Core.Path.{refl, ◌∙◌}
-use native.Mathlib.Omega.{arith}
-use borrow.Author.Rules.{rules}
+use Rattle.model.specs.Constraint.{met}
+use Rattle.wire.proofs.NumberLaws.{number_two, number_four}
 use Rattle.verdict.proofs.constraints.is_met.Goals as goal
 
-pub bounds-body-1 : goal.bounds-body-1
-unfolding kind_of
-bounds-body-1 c =
-    fixed_base c.args.mctype 1 c.args.body.now c.if-mctype-eq1.true c.requires
+pub returns-in-NodeState-len2-up : goal.returns-in-NodeState-len2-up
+unfolding met
+returns-in-NodeState-len2-up c = rw c.in-NodeState-len2-up.is-0 c.meets_nsa.ensures
 
-pub returns-then-mctype-eq1 : goal.returns-then-mctype-eq1
-returns-then-mctype-eq1 c =
-    let args = c.args in
-    c.meets_nsa.ensures ∙ met_nsa_lem args.neighbour args.summary args.mctype args.body.now c.if-mctype-eq1.true
+pub returns-in-NodeEnergy-len2-up : goal.returns-in-NodeEnergy-len2-up
+unfolding met
+returns-in-NodeEnergy-len2-up c = rw c.in-NodeEnergy-len2-up.is-0 c.meets_ne.ensures
 
-pub bounds-body-0 : goal.bounds-body-0
-unfolding kind_of
-bounds-body-0 c =
-    let two = fixed_base c.args.mctype 2 c.args.body.now c.if-mctype-eq2.true c.requires in
-    omega arith
+pub returns-in-HopCount-len2-up : goal.returns-in-HopCount-len2-up
+unfolding met
+returns-in-HopCount-len2-up c = rw c.in-HopCount-len2-up.is-0 c.meets_hp.ensures
 
-pub bounds-body-1-then-mctype-eq2 : goal.bounds-body-1-then-mctype-eq2
-unfolding kind_of
-bounds-body-1-then-mctype-eq2 c =
-    fixed_base c.args.mctype 2 c.args.body.now c.if-mctype-eq2.true c.requires
+pub returns-in-Throughput-len4 : goal.returns-in-Throughput-len4
+unfolding met
+returns-in-Throughput-len4 c =
+    let n = number_four c.args.body.now c.in-Throughput-len4.len_at_least c.in-Throughput-len4.len_below in
+    rw (c.in-Throughput-len4.is-0, ← n, ← c.from_be_bytes.ensures) c.meets_throughput.ensures
 
-pub returns-then-mctype-eq2 : goal.returns-then-mctype-eq2
-returns-then-mctype-eq2 c =
-    let args = c.args in
-    c.meets_ne.ensures ∙ met_ne_lem args.neighbour args.summary args.mctype args.body.now c.if-mctype-eq2.true
+pub returns-in-Latency-len4 : goal.returns-in-Latency-len4
+unfolding met
+returns-in-Latency-len4 c =
+    let n = number_four c.args.body.now c.in-Latency-len4.len_at_least c.in-Latency-len4.len_below in
+    rw (c.in-Latency-len4.is-0, ← n, ← c.from_be_bytes-in-Latency-len4.ensures) c.meets_latency.ensures
 
-pub bounds-body-1-then-mctype-eq3 : goal.bounds-body-1-then-mctype-eq3
-unfolding kind_of
-bounds-body-1-then-mctype-eq3 c =
-    fixed_base c.args.mctype 3 c.args.body.now c.if-mctype-eq3.true c.requires
+pub returns-in-LinkQuality-len2-up : goal.returns-in-LinkQuality-len2-up
+unfolding met
+returns-in-LinkQuality-len2-up c = rw c.in-LinkQuality-len2-up.is-0 c.meets_lql.ensures
 
-pub returns-then-mctype-eq3 : goal.returns-then-mctype-eq3
-returns-then-mctype-eq3 c =
-    let args = c.args in
-    c.meets_hp.ensures ∙ met_hp args.neighbour args.summary args.mctype args.body.now c.if-mctype-eq3.true
+pub returns-in-Etx-len2 : goal.returns-in-Etx-len2
+unfolding met
+returns-in-Etx-len2 c =
+    let n = number_two c.args.body.now c.in-Etx-len2.len_at_least c.in-Etx-len2.len_below in
+    rw (c.in-Etx-len2.is-0, ← n, ← c.from_be_bytes-in-Etx-len2.ensures) c.meets_etx.ensures
 
-pub returns-then-mctype-eq4 : goal.returns-then-mctype-eq4
-unfolding kind_of
-returns-then-mctype-eq4 c =
-    let args = c.args in
-    c.meets_throughput.ensures
-    ∙ met-throughput args.neighbour args.summary args.mctype args.body.now _ c.if-mctype-eq4.true (c.number_4.ensures ∙ number_in_lem 4 args.body.now (fixed_whole args.mctype 4 args.body.now c.if-mctype-eq4.true refl c.requires))
+pub returns-in-LinkColour-len3-up : goal.returns-in-LinkColour-len3-up
+unfolding met
+returns-in-LinkColour-len3-up c = rw c.in-LinkColour-len3-up.is-0 c.meets_colour.ensures
 
-pub returns-then-mctype-eq5 : goal.returns-then-mctype-eq5
-unfolding kind_of
-returns-then-mctype-eq5 c =
-    let args = c.args in
-    c.meets_latency.ensures
-    ∙ met-latency args.neighbour args.summary args.mctype args.body.now _ c.if-mctype-eq5.true (c.number_4-then-mctype-eq5.ensures ∙ number_in_lem 4 args.body.now (fixed_whole args.mctype 5 args.body.now c.if-mctype-eq5.true refl c.requires))
-
-pub bounds-body-1-then-mctype-eq6 : goal.bounds-body-1-then-mctype-eq6
-unfolding kind_of
-bounds-body-1-then-mctype-eq6 c =
-    fixed_base c.args.mctype 6 c.args.body.now c.if-mctype-eq6.true c.requires
-
-pub returns-then-mctype-eq6 : goal.returns-then-mctype-eq6
-returns-then-mctype-eq6 c =
-    let args = c.args in
-    c.meets_lql.ensures ∙ met-lql args.neighbour args.summary args.mctype args.body.now c.if-mctype-eq6.true
-
-pub returns-then-mctype-eq7 : goal.returns-then-mctype-eq7
-unfolding kind_of
-returns-then-mctype-eq7 c =
-    let args = c.args in
-    c.meets_etx.ensures
-    ∙ met-etx args.neighbour args.summary args.mctype args.body.now _ c.if-mctype-eq7.true (c.number_2.ensures ∙ number_in_lem 2 args.body.now (fixed_whole args.mctype 7 args.body.now c.if-mctype-eq7.true refl c.requires))
-
-pub bounds-body-1-then-mctype-eq8 : goal.bounds-body-1-then-mctype-eq8
-unfolding kind_of
-bounds-body-1-then-mctype-eq8 c =
-    let three = fixed_base c.args.mctype 8 c.args.body.now c.if-mctype-eq8.true c.requires in
-    omega arith
-
-pub bounds-body-2 : goal.bounds-body-2
-unfolding kind_of
-bounds-body-2 c =
-    fixed_base c.args.mctype 8 c.args.body.now c.if-mctype-eq8.true c.requires
-
-pub returns-then-mctype-eq8 : goal.returns-then-mctype-eq8
-returns-then-mctype-eq8 c =
-    let args = c.args in
-    c.meets_colour.ensures ∙ met-colour args.neighbour args.summary args.mctype args.body.now c.if-mctype-eq8.true
-
-pub returns : goal.returns
-returns c =
-    let args = c.args in
-    met_unknown args.neighbour args.summary args.mctype args.body.now (past_known args.mctype c.if-mctype-eq1.false c.if-mctype-eq2.false c.if-mctype-eq3.false c.if-mctype-eq4.false c.if-mctype-eq5.false c.if-mctype-eq6.false c.if-mctype-eq7.false c.if-mctype-eq8.false)
+pub returns-in_default-12 : goal.returns-in_default-12
+unfolding met
+returns-in_default-12 c = rw c.in_default.is-0
