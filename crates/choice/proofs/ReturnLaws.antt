@@ -16,8 +16,7 @@ use Rattle.model.specs.declared.Answer.{Answer}
 use Rattle.model.specs.Choice.{refusal, Outgoing, no_parent, parent_of, rank_of, output_of, outgoing, Result, choice_of, unless_refused, call}
 use Rattle.model.proofs.Refusals.{refusal_is}
 use Rattle.model.proofs.CallLaws.{call_is, unrefused}
-use Rattle.hop.specs.declared.plan.Sent.{Sent}
-use Rattle.hop.specs.Sent.{sent_of, sends}
+use Rattle.hop.specs.Sent.{Sent, sent_of, sends}
 use Rattle.choice.specs.Given.{given}
 use Rattle.choice.specs.Demand3.{Returned}
 use Rattle.choice.specs.declared.refusals.Refusal.{Refusal}
@@ -71,11 +70,6 @@ module _ (own : OwnType.Own) (cs : List Candidate) (n : ℕ) (lent out : List �
         let h : n ≤ length cs = omega (arith, array, (runs z).few) in
         rw (call_is own (given cs n) lent out (taken z), given_within cs n, q, ← f, g.numbered, g.placed, g.marked) (refl, refl)
 
-    -- an answer to which the rest is added
-    finished : (p : ℕ) (r : Rank) (s : Sent)
-        → record answer { parent = p; rank = r; count = ones answer.bits; leaf = s.leaf; size = s.size } ≡ answer_with p r answer.verdicts answer.places answer.bits s
-    finished p r s = ap {A = Answer} {B = Answer} (λ a. record a { parent = p; rank = r; count = ones answer.bits; leaf = s.leaf; size = s.size }) pass.fresh
-
     pub nobody_returns : {k : ℕ} → best ≡ Nobody → k ≡ ones answer.bits → Returns (record answer { count = k }) out
     unfolding outgoing
     nobody_returns b count =
@@ -89,15 +83,27 @@ module _ (own : OwnType.Own) (cs : List Candidate) (n : ℕ) (lent out : List �
           let e = sym g.chosen ∙ b in
           (omega (arith, (parent_at own cs lent n d p offer e).below, (runs z).few), parent_inside own cs lent n d p offer e)
 
-      pub parent_returns : {k : ℕ} {s : Sent} {left : List ℕ} → k ≡ ones answer.bits → (let c = get_or cs p d in let o = sends own c.neighbour (take (c.start + c.size - c.start) (drop c.start lent)) (length out) in
-          (s ≡ sent_of o) × (left ≡ output_of o out))
-          → Returns (record answer { parent = p; rank = offer.rank; count = k; leaf = s.leaf; size = s.size }) left
-      parent_returns {s = s} count (x, y) =
+      -- what is sent on for it, by the two lists that are lent
+      abbrev pub SentAs : Sent → (left : List ℕ) → Type 0
+      SentAs s left =
+          let c = get_or cs p d in let o = sends own c.neighbour (take (c.start + c.size - c.start) (drop c.start lent)) (length out) in
+          (s ≡ sent_of o) × (left ≡ output_of o out)
+
+      parent_returns : {r : Answer} {s : Sent} {left : List ℕ} → SentAs s left → r ≡ answer_with p offer.rank answer.verdicts answer.places answer.bits s → Returns r left
+      parent_returns (x, y) a =
           let c = get_or cs p d in
           let u = runs z in
           let f : sends own c.neighbour (take (c.start + c.size - c.start) (drop c.start lent)) (length out) ≡ outgoing own (take n cs) lent (Parent p offer) =
           rw (add-sub_cancel_left c.start c.size) (parent_sends own cs lent n d p offer (sym g.chosen ∙ b) (length out) u.known_type u.room) in
-          rw (count, finished p offer.rank s, x, y) (answered_returns (Parent p offer) b _ f)
+          rw (a, x, y) (answered_returns (Parent p offer) b _ f)
+
+      pub size_returns : {k size : ℕ} {left : List ℕ} → k ≡ ones answer.bits → SentAs (record { leaf = 0; size = size }) left
+          → Returns (record answer { parent = p; rank = offer.rank; count = k; size = size }) left
+      size_returns {k} {size} count sent = parent_returns sent (rw count (ap {A = Answer} {B = Answer} (λ a. record a { parent = p; rank = offer.rank; count = ones answer.bits; size = size }) pass.fresh))
+
+      pub leaf_returns : {k leaf : ℕ} {left : List ℕ} → k ≡ ones answer.bits → SentAs (record { leaf = leaf; size = 0 }) left
+          → Returns (record answer { parent = p; rank = offer.rank; count = k; leaf = leaf }) left
+      leaf_returns {k} {leaf} count sent = parent_returns sent (rw count (ap {A = Answer} {B = Answer} (λ a. record a { parent = p; rank = offer.rank; count = ones answer.bits; leaf = leaf }) pass.fresh))
 
 -- both parts of the contract, and what demand 3 asks of them
 pub as_returned : {own : OwnType.Own} {cs : List Candidate} {n : ℕ} {lent out : List ℕ} {r : Answer} {left : List ℕ} → Returns own cs n lent out r left

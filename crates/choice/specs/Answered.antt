@@ -5,7 +5,7 @@ use Rattle.model.specs.declared.Rank.{Rank}
 use Rattle.model.specs.declared.Answer.{Answer}
 use Rattle.model.specs.Rank.{infinite}
 use Rattle.model.specs.Choice.{no_parent, refused_by}
-use Rattle.hop.specs.declared.plan.Sent.{Sent}
+use Rattle.hop.specs.Sent.{Sent}
 
 -- the answer of a refused call
 abbrev pub refused_answer : (number : ℕ) → Answer

@@ -55,11 +55,12 @@ pub fn call(
     if let Some(parent) = best {
         let chosen = candidates[parent.position as usize];
         let end = chosen.start + chosen.size;
-        let sent = hop::send(own, chosen.neighbour, &lent[chosen.start..end], out);
         answer.parent = parent.position;
         answer.rank = parent.offer.rank;
-        answer.leaf = sent.leaf;
-        answer.size = sent.size;
+        match hop::send(own, chosen.neighbour, &lent[chosen.start..end], out) {
+            Ok(size) => answer.size = size,
+            Err(leaf) => answer.leaf = leaf.number(),
+        }
     }
     answer
 }

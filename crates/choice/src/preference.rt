@@ -18,7 +18,11 @@ fn comes_before(own: Own, one: Parent, other: Parent) -> bool
     ensures { result ≡ precedes (criteria (current_of own) one.position one.offer) (criteria (current_of own) other.position other.offer) }
 {
     let a = (one.offer, !is_current(own, one.position), one.position);
-    let b = (other.offer, !is_current(own, other.position), other.position);
+    let b = (
+        other.offer,
+        !is_current(own, other.position),
+        other.position,
+    );
     a < b
 }
 

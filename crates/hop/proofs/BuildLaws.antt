@@ -151,6 +151,11 @@ builds_one os rest p h =
     let n = ap length p.gives ∙ length-append p.front (bytes_in (pack_from p.held (os ++ rest))) in
     omega (arith, p.built.end, pack_one p.held os rest (omega arith))
 
+-- so has one
+pub builds_lone : {l whole m a : List ℕ} {place : Place} (o : Object) (rest : List Object) → Builds l whole place m a (o ∷ rest) → length whole ≤ 257 → place.at + length (bytes_of o) ≤ 257
+unfolding join
+builds_lone o rest p h = let n = ap length (append-nil (bytes_of o)) in omega (arith, builds_one (o ∷ []) rest p h, n)
+
 -- for one that has none the container is closed, and the array serves for the next one
 pub builds_next : {l whole m a m' a' : List ℕ} {place : Place} {rest : List Object} {r : ℕ} (o : Object) → Builds l whole place m a (o ∷ rest) → length (bytes_of o) ≤ 255
     → 257 < place.at + length (bytes_of o) → Put m place.done (take place.at (framed a place.at)) r m' → a' ≡ framed a place.at

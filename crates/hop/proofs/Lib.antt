@@ -1,7 +1,6 @@
 pub mod RunLaws
 pub mod PackingLaws
 pub mod BodyLaws
-pub mod PartLaws
 pub mod PlanLaws
 pub mod BuildLaws
 pub mod SendLaws

@@ -1,6 +1,5 @@
 -- Inside the crate: objects by containers, before a byte is written.
-use Rattle.std.specs.Prelude.{◌≡◌, ℕ, ◌*◌, ◌≤◌, true, false, List, ◌++◌, map, ltb, length}
-use Rattle.std.proofs.Math.Option.{Option, none, some}
+use Rattle.std.specs.Prelude.{◌≡◌, ℕ, ◌*◌, ◌≤◌, List, ◌++◌, map, ltb, length}
 use Rattle.model.specs.declared.Own.{Own}
 use Rattle.model.specs.declared.Neighbour.{Neighbour}
 use Rattle.model.specs.Number.{first_of}
@@ -10,7 +9,7 @@ use Rattle.model.specs.Pack.{pack_from, pack, container_option, unpackable}
 use Rattle.model.specs.Update.{update, object_leaf}
 use Rattle.hop.specs.declared.plan.Filled.{Filled}
 use Rattle.hop.specs.declared.plan.Planned.{Planned}
-use Rattle.hop.specs.declared.plan.Passed.{Passed}
+use Rattle.metric.specs.Leaf.{leaf_number}
 
 -- the bytes of containers
 abbrev pub bytes_in : List (List Object) → List ℕ
@@ -38,10 +37,5 @@ pub record Fills (f : Filled) (os : List Object) : Type 0 where
 
 -- the first of 31 to 34 and 36 among objects, and their packing for the next hop
 pub record Plans (own : Own) (c : Neighbour) (p : Planned) (es : List Object) : Type 0 where
-  pub leaf : p.leaf ≡ first_of (object_leaf own c) es
+  pub leaf : leaf_number p.leaf ≡ first_of (object_leaf own c) es
   pub fills : Fills p.filled (update own c es)
-
--- objects behind those that are planned: they are planned too, or one is cut short
-abbrev pub Passes : Own → Neighbour → Passed → (before : List Object) → (behind : Option (List Object)) → Type 0
-Passes own c r es none = r.whole ≡ false
-Passes own c r es (some os) = (r.whole ≡ true) × Plans own c r.planned (es ++ os)

@@ -1,5 +1,5 @@
 -- What is sent on for a parent: the answer and every byte of the output.
-use Rattle.std.specs.Prelude.{ℕ, Bool, cond, ◌||◌, List, ltb}
+use Rattle.std.specs.Prelude.{ℕ, Bool, cond, ◌||◌, List, ltb, Result, Ok, Err}
 use Rattle.std.proofs.Math.Option.{Option, none, some}
 use Rattle.model.specs.declared.Own.{Own}
 use Rattle.model.specs.declared.Neighbour.{Neighbour}
@@ -8,7 +8,8 @@ use Rattle.model.specs.Run.{run_objects}
 use Rattle.model.specs.Pack.{packed}
 use Rattle.model.specs.Update.{update, leaf_answer}
 use Rattle.model.specs.Choice.{Outgoing, no_container, unless_leaf, leaf_of, size_of}
-use Rattle.hop.specs.declared.plan.Sent.{Sent}
+use Rattle.metric.specs.declared.leaf.Leaf.{Leaf}
+use Rattle.metric.specs.Leaf.{number_of}
 
 -- numbers that no parent of an unrefused call has: own type above 3, LQL above 7, a colour above 1023, an output under 2056
 abbrev pub unfit : Own → Neighbour → (room : ℕ) → Bool
@@ -24,5 +25,15 @@ unfoldable pub sends : Own → Neighbour → (run : List ℕ) → (room : ℕ) �
 sends own c run room = cond (unfit own c room) (no_container 0) (sends_objects own c (run_objects run))
 
 -- leaf number and length, 0 each where there is none
+pub record Sent : Type 0 where
+  pub leaf : ℕ
+  pub size : ℕ
+
+-- what is to be told of what is sent on
 abbrev pub sent_of : Outgoing → Sent
 sent_of o = record { leaf = leaf_of o; size = size_of o }
+
+-- what a result tells
+abbrev pub told_by : Result ℕ Leaf → Sent
+told_by (Ok size) = record { leaf = 0; size = size }
+told_by (Err leaf) = record { leaf = number_of leaf; size = 0 }

@@ -40,13 +40,13 @@ pub(crate) fn put_body(
     requires body_in_bounds { at + length (next_body own neighbour (kind_of header.mctype) (role_of header.flags header.mode) (header.mode / 16 % 8) body.now) ≤ length out.old }
     ensures { Put out.old at (next_body own neighbour (kind_of header.mctype) (role_of header.flags header.mode) (header.mode / 16 % 8) body.now) result out.new }
 {
-    if wire::is_constraint(header) {
+    if header.is_constraint() {
         if header.mctype == 8 {
             return colours::put_cleared(out, at, body);
         }
         return put_constraint(out, at, header.mctype, body);
     }
-    if wire::is_recorded(header) {
+    if header.is_recorded() {
         return recorded::put_recorded(out, at, own, neighbour, header.mctype, body);
     }
     aggregated::put_aggregated(out, at, own, neighbour, header, body)

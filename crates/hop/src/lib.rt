@@ -10,5 +10,4 @@ mod plan;
 mod recorded;
 mod sending;
 
-pub use plan::Sent;
 pub use sending::send;

@@ -5,7 +5,7 @@ ghost use Rattle.model.specs.Update.{adds_nothing, next_flags, next_mode};
 
 use crate::values;
 use model::Neighbour;
-use wire::Header;
+use wire::{Header, MetricType};
 
 // Whether a metric's value is one number: throughput, latency and ETX.
 fn is_scalar(mctype: u8) -> bool
@@ -21,17 +21,17 @@ fn adds_nothing(neighbour: Neighbour, mctype: u8) -> bool
     if is_scalar(mctype) {
         return values::link_value(neighbour, mctype).is_none();
     }
-    !wire::is_known(mctype)
+    !MetricType::from(mctype).is_known()
 }
 
 // Byte 1: reserved bits are cleared, and O when C=0; P is set where a recorded metric gains nothing.
 pub fn next_flags(neighbour: Neighbour, header: Header) -> u8
     ensures { result ≡ next_flags (role_of header.flags header.mode) (adds_nothing neighbour (kind_of header.mctype)) header.flags }
 {
-    if wire::is_constraint(header) {
+    if header.is_constraint() {
         return header.flags % 8;
     }
-    if !wire::is_recorded(header) {
+    if !header.is_recorded() {
         return header.flags / 4 % 2 * 4;
     }
     if adds_nothing(neighbour, header.mctype) {
@@ -44,7 +44,7 @@ pub fn next_flags(neighbour: Neighbour, header: Header) -> u8
 pub fn next_mode(header: Header) -> u8
     ensures { result ≡ next_mode (role_of header.flags header.mode) header.mode }
 {
-    if wire::is_constraint(header) {
+    if header.is_constraint() {
         return header.mode % 128;
     }
     header.mode

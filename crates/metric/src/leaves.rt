@@ -10,14 +10,14 @@ ghost use Rattle.metric.specs.Next.{full_in, over_in, valued_leaf, aggregated_le
 use crate::leaf::Leaf;
 use crate::values;
 use model::{Neighbour, Own};
-use wire::Header;
+use wire::{Header, MetricType};
 
 // Whether the table allows a type to be aggregated by an A below 8.
 fn is_allowed(mctype: u8, a: u8) -> bool
     requires { a < 8 }
     ensures { result ≡ allowed (kind_of mctype) a }
 {
-    let row = wire::row_of(mctype);
+    let row = MetricType::from(mctype).row();
     (row.allows >> a) % 2 == 1
 }
 
@@ -87,7 +87,7 @@ fn check_aggregated(
     requires { a < 8 }
     ensures { leaf_number result ≡ aggregated_leaf own neighbour (kind_of mctype) a body.now }
 {
-    if !wire::is_known(mctype) {
+    if !MetricType::from(mctype).is_known() {
         return Err(Leaf::Unknown);
     }
     if !is_allowed(mctype, a) {
@@ -100,10 +100,10 @@ fn check_aggregated(
 pub fn object_leaf(own: Own, neighbour: Neighbour, header: Header, body: &[u8]) -> Result<(), Leaf>
     ensures { leaf_number result ≡ object_leaf own neighbour (object_of header body.now) }
 {
-    if wire::is_constraint(header) {
+    if header.is_constraint() {
         return Ok(());
     }
-    if wire::is_recorded(header) {
+    if header.is_recorded() {
         return check_count(header.mctype, body);
     }
     check_aggregated(own, neighbour, header.mctype, header.mode / 16 % 8, body)

@@ -62,7 +62,7 @@ pub fn growth(neighbour: Neighbour, header: Header, body: &[u8]) -> usize
     ensures result_len { (own : Own) → length body.now + result ≡ length (next_body own neighbour (kind_of header.mctype) (role_of header.flags header.mode) (header.mode / 16 % 8) body.now) }
     ensures small { result ≤ 4 }
 {
-    if wire::is_recorded(header) {
+    if header.is_recorded() {
         return recorded_growth(neighbour, header.mctype, body);
     }
     0

@@ -1,8 +1,7 @@
 use mathlib.Core.Path.{◌∙◌}
-use borrow.Author.Rules.{rules}
 use Rattle.model.specs.Update.{combine}
 use Rattle.wire.proofs.NumberLaws.{number_in_lem}
-use Rattle.hop.proofs.BodyLaws.{on_other, on_field_lem}
+use Rattle.hop.proofs.BodyLaws.{on_field_lem}
 use Rattle.hop.proofs.aggregated.put_field_4.Goals as goal
 
 pub returns : goal.returns

@@ -1,5 +1,4 @@
-use borrow.Author.Rules.{rules}
-use Rattle.metric.proofs.RoleLaws.{as_constraint, as_recorded, as_aggregated}
+use Rattle.metric.proofs.RoleLaws.{as_constraint, as_aggregated}
 use Rattle.metric.proofs.KindLaws.{constraint_two, constraint_three}
 use Rattle.metric.proofs.SizeLaws.{length_constraint, length_aggregated}
 use Rattle.hop.proofs.bodies.put_body.Goals as goal

@@ -1,7 +1,6 @@
 use Prim.Native.Nat.{◌-◌, ◌≤◌}
-use native.Mathlib.Omega.{arith}
 use lib.ListN.{length, drop}
-use Rattle.hop.proofs.RunLaws.{Putting, putting_first, putting_next, putting_done}
+use Rattle.hop.proofs.RunLaws.{Putting}
 use Rattle.hop.proofs.bytes.put_bytes.Given as goal
 
 abbrev pub invariant-loop-i : goal.invariant-loop-i

@@ -1,7 +1,6 @@
 use Prim.Native.Nat.{◌+◌}
 use native.Mathlib.Omega.{arith}
 use lib.ListN.{length-set}
-use borrow.Author.Rules.{rules}
 use Rattle.wire.proofs.PutLaws.{put_length}
 use Rattle.metric.proofs.ColourLaws.{place_within}
 use Rattle.hop.proofs.RunLaws.{colour_counted, colour_lone, colour_added, colours_fit, added_fit, gained_byte}

@@ -1,12 +1,7 @@
 use Prim.Native.Nat.{◌-◌, ◌≤◌}
-use mathlib.Core.Path.{sym, ◌∙◌}
-use native.Mathlib.Omega.{arith}
-use borrow.Author.Rules.{rules}
-use lib.ListN.{length, drop, length-set}
+use lib.ListN.{length, drop}
 use Rattle.model.specs.Update.{count_level}
-use Rattle.wire.proofs.PutLaws.{put_length}
-use Rattle.hop.proofs.RunLaws.{Putting, putting_first, level_room, level_next, level_counted, level_rest, level_added}
-use Rattle.hop.proofs.BodyLaws.{counted_byte}
+use Rattle.hop.proofs.RunLaws.{Putting}
 use Rattle.hop.proofs.levels.put_levels.Given as goal
 
 abbrev pub invariant-loop-i : goal.invariant-loop-i

@@ -1,16 +1,13 @@
-use native.Mathlib.Omega.{arith}
-use Rattle.hop.proofs.PackingLaws.{small_size}
+use mathlib.Core.Path.{ap}
+use Rattle.metric.specs.Leaf.{leaf_number}
 use Rattle.hop.proofs.PlanLaws.{ends_leaf, ends_long, ends_fits}
 use Rattle.hop.proofs.plan.conclude.Goals as goal
 
--- src/plan.rt:94:9
-pub returns-then-p-ne0 : goal.returns-then-p-ne0
-returns-then-p-ne0 c = λ own n os q. ends_leaf own n os _ q c.if-p-ne0.true
+pub returns-in-Err : goal.returns-in-Err
+returns-in-Err c = λ own n os q. ends_leaf own n os _ q c.in-Err.is
 
--- src/plan.rt:100:9
-pub returns-then-p-gt255 : goal.returns-then-p-gt255
-returns-then-p-gt255 c = λ own n os q. ends_long own n os _ q c.if-p-ne0.false c.if-p-gt255.true
+pub returns-in-Ok : goal.returns-in-Ok
+returns-in-Ok c = λ own n os q. ends_long own n os _ q (ap leaf_number c.in-Ok.is) c.if-p-gt255.true
 
--- src/plan.rt:89:1
-pub returns : goal.returns
-returns c = λ own n os q. ends_fits own n os _ q c.if-p-ne0.false c.if-p-gt255.false
+pub returns-in-Ok-2 : goal.returns-in-Ok-2
+returns-in-Ok-2 c = λ own n os q. ends_fits own n os _ q (ap leaf_number c.in-Ok.is) c.if-p-gt255.false

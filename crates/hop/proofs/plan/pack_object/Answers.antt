@@ -1,6 +1,4 @@
-use native.Mathlib.Omega.{arith}
-use borrow.Author.Rules.{rules}
-use Rattle.hop.proofs.PackingLaws.{fills_over, fills_long, fills_within, fills_next, fills_ninth, small_over, small_within, small_next, small_size}
+use Rattle.hop.proofs.PackingLaws.{fills_over, fills_long, fills_within, fills_next, fills_ninth, small_over, small_within, small_next}
 use Rattle.hop.proofs.plan.pack_object.Goals as goal
 
 -- src/plan.rt:41:9

@@ -1,26 +1,24 @@
-use mathlib.Core.Path.{sym, ◌∙◌}
 use borrow.Author.Rules.{rules}
-use borrow.Author.Tests.{not-true, not-false}
-use lib.Seq.{length-take-le}
-use Rattle.wire.proofs.StepLaws.{left}
-use Rattle.wire.proofs.RunWalkLaws.{enter_on}
-use Rattle.hop.proofs.PlanLaws.{Planning, planning_first, planning_short, planning_enter, planning_cut, planning_end}
+use Rattle.hop.proofs.PlanLaws.{plan_start, plan_into, plan_onward, plan_out, plan_cut, plan_short, plan_done}
 use Rattle.hop.proofs.plan.plan.Goals as goal
 
-pub loop-own-init : goal.loop-own-init
-loop-own-init c = planning_first _ _ _ c.args.start c.requires
+pub loop-data-init : goal.loop-data-init
+loop-data-init c = let w = plan_start c.args.own c.args.neighbour c.args.run.now in search (rules, w)
 
-pub returns-then-not-passed : goal.returns-then-not-passed
-returns-then-not-passed c = planning_short _ _ _ _ _ _ c.loop-own.invariant _ c.plan_container-passed.ensures.planned (not-true _ c.if-not-passed.true)
+pub loop-object-init : goal.loop-object-init
+loop-object-init c = let w = plan_into _ _ _ _ _ _ _ c.loop-data.invariant c.in-Some.ensures.steps.0 c.in-Some.ensures.steps.1 in search (rules, w)
 
-pub loop-own-smaller : goal.loop-own-smaller
-loop-own-smaller c = (enter_on _ _ _ (sym c.enter.ensures ∙ c.in-Into.is) c.loop-own.invariant.inside).0
+pub loop-object-preserved : goal.loop-object-preserved
+loop-object-preserved c = plan_onward _ _ _ _ _ _ _ c.loop-object.invariant _ _ c.in-Some-next.ensures.steps.0 c.in-Some-next.ensures.steps.1 c.plan_object-planned.ensures.small (c.plan_object-planned.ensures.planned)
 
-pub loop-own-preserved : goal.loop-own-preserved
-loop-own-preserved c = planning_enter _ _ _ _ _ _ c.loop-own.invariant _ c.plan_container-passed.ensures.planned (not-false _ c.if-not-passed.false) c.plan_container-passed.ensures.small (sym c.enter.ensures ∙ c.in-Into.is)
+pub returns-then-not-is_done : goal.returns-then-not-is_done
+returns-then-not-is_done c = plan_cut _ _ _ _ _ _ _ c.loop-object.invariant c.in_default-next.ensures.steps.1 (search rules)
 
-pub returns-in-Short : goal.returns-in-Short
-returns-in-Short c = planning_cut _ _ _ _ _ _ c.loop-own.invariant _ c.plan_container-passed.ensures.planned (not-false _ c.if-not-passed.false) c.plan_container-passed.ensures.small (sym c.enter.ensures ∙ c.in-Short.is)
+pub loop-data-preserved : goal.loop-data-preserved
+loop-data-preserved c = plan_out _ _ _ _ _ _ _ c.loop-object.invariant c.in_default-next.ensures.steps.0.0 c.in_default-next.ensures.steps.1 (search rules)
 
-pub returns-in-Nothing : goal.returns-in-Nothing
-returns-in-Nothing c = planning_end _ _ _ _ _ _ c.loop-own.invariant _ c.plan_container-passed.ensures.planned (not-false _ c.if-not-passed.false) c.plan_container-passed.ensures.small (sym c.enter.ensures ∙ c.in-Nothing.is) c.conclude.ensures
+pub returns-then-not-is_done-2 : goal.returns-then-not-is_done-2
+returns-then-not-is_done-2 c = plan_short _ _ _ _ _ _ c.loop-data.invariant c.in_default.ensures.steps.1 (search rules)
+
+pub returns : goal.returns
+returns c = plan_done _ _ _ _ _ _ c.loop-data.invariant _ c.in_default.ensures.steps.0.0 c.in_default.ensures.steps.1 (search rules) c.conclude.ensures

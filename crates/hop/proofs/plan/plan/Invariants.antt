@@ -1,14 +1,8 @@
-use mathlib.Core.Path.{sym, ◌∙◌}
-use borrow.Author.Rules.{rules}
-use borrow.Author.Tests.{not-true, not-false}
-use lib.Seq.{length-take-le}
-use Rattle.wire.proofs.StepLaws.{left}
-use Rattle.wire.proofs.RunWalkLaws.{enter_on}
-use Rattle.hop.proofs.PlanLaws.{Planning, planning_first, planning_short, planning_enter, planning_cut, planning_end}
+use Rattle.hop.proofs.PlanLaws.{AtPlan, InPlan}
 use Rattle.hop.proofs.plan.plan.Given as goal
 
-abbrev pub invariant-loop-own : goal.invariant-loop-own
-invariant-loop-own l = Planning l.own l.neighbour l.run l.end l.cursor l.p
+abbrev pub invariant-loop-object : goal.invariant-loop-object
+invariant-loop-object l = InPlan l.own l.neighbour l.fn.run l.containers.rest.now l.objects.rest.now l.planned
 
-abbrev pub decreases-loop-own : goal.decreases-loop-own
-decreases-loop-own l = left l.run l.cursor
+abbrev pub invariant-loop-data : goal.invariant-loop-data
+invariant-loop-data l = AtPlan l.own l.neighbour l.fn.run l.containers.rest.now l.planned

@@ -1,8 +1,4 @@
-use Prim.Native.Nat.{◌-◌, ◌≤◌}
-use native.Mathlib.Omega.{arith}
-use lib.ListN.{length, drop, length-set}
-use Rattle.model.specs.Update.{clear_each}
-use Rattle.hop.proofs.RunLaws.{Putting, putting_first, energies_next, energies_lone, energies_done}
+use Rattle.hop.proofs.RunLaws.{energies_lone}
 use Rattle.hop.proofs.recorded.put_energies.Goals as goal
 
 pub returns-then-n-i-lt2 : goal.returns-then-n-i-lt2

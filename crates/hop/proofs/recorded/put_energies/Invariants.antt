@@ -1,8 +1,7 @@
 use Prim.Native.Nat.{◌-◌, ◌≤◌}
-use native.Mathlib.Omega.{arith}
-use lib.ListN.{length, drop, length-set}
+use lib.ListN.{length, drop}
 use Rattle.model.specs.Update.{clear_each}
-use Rattle.hop.proofs.RunLaws.{Putting, putting_first, energies_next, energies_lone, energies_done}
+use Rattle.hop.proofs.RunLaws.{Putting}
 use Rattle.hop.proofs.recorded.put_energies.Given as goal
 
 abbrev pub invariant-loop-i : goal.invariant-loop-i

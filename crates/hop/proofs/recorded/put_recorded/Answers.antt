@@ -1,7 +1,5 @@
-use mathlib.Core.Path.{◌∙◌}
-use borrow.Author.Rules.{rules}
 use Rattle.model.proofs.ShapeLaws.{length-clear_each, length-own_energy}
-use Rattle.wire.proofs.PutLaws.{put_append, put_length}
+use Rattle.wire.proofs.PutLaws.{put_append}
 use Rattle.hop.proofs.BodyLaws.{recorded_energy, recorded_levels, recorded_colours, recorded_before, recorded_2, recorded_4, recorded_room, room_first, room_second}
 use Rattle.model.specs.Constraint.{energy_in}
 use Rattle.model.specs.Update.{clear_each, own_energy, sub_object}

@@ -1,66 +1,44 @@
-use mathlib.Core.Path.{◌≡◌, sym, ◌∙◌}
-use mathlib.Core.Bool.{false}
-use mathlib.Core.List.{List}
-use mathlib.Core.Option.{some}
 use borrow.Author.Rules.{rules}
-use lib.Seq.{length-take-le}
-use Rattle.model.specs.Object.{Object}
-use Rattle.model.specs.Run.{run_objects}
-use Rattle.model.specs.Pack.{unpackable}
-use Rattle.model.specs.Update.{update}
-use Rattle.wire.proofs.StepLaws.{left}
-use Rattle.wire.proofs.PutLaws.{put_length}
-use Rattle.wire.proofs.RunWalkLaws.{enter_on}
-use Rattle.hop.proofs.SendLaws.{Placing, placing_first, placing_ready, placing_length, placing_inside, part_inside, part_fits, behind_at, part_on, placing_part, placing_enter, placing_cut, placing_end, placed, placed_one}
+use Rattle.hop.proofs.SendLaws.{put_start, put_ready, put_into, put_room, put_onward, put_out, put_close, placed, placed_one}
 use Rattle.hop.proofs.sending.put_objects.Goals as goal
 
-pub loop-end-init : goal.loop-end-init
-loop-end-init c = λ os q u. placing_first _ _ _ _ os c.args.start _ c.requires.start_value q u c.requires.array_len.0 c.requires.array_len.1
+pub loop-data-init : goal.loop-data-init
+loop-data-init c = λ os q u. let w = put_start c.args.own c.args.neighbour c.args.out.now os c.args.run.now c.args.array.now q u c.requires.array_len.0 c.requires.array_len.1 in search (rules, w)
 
-pub open_part-part-requires : goal.open_part-part-requires
-open_part-part-requires c =
-    let w = c.loop-end.invariant c.requires.fits.objects c.requires.fits.whole c.requires.fits.packs in
-    let ready = placing_ready _ _ _ _ _ _ _ _ _ _ w c.requires.fits.packs c.requires.array_len.2 in
-    record { le_at = ready.0; at_in_bounds = ready.1; at_in_bounds_2 = placing_inside _ _ _ _ _ _ _ _ _ _ w }
+pub loop-object-init : goal.loop-object-init
+loop-object-init c = λ os q u. let w = put_into _ _ _ _ _ _ _ _ _ _ (c.loop-data.invariant os q u) c.in-Some.ensures.steps.0 c.in-Some.ensures.steps.1 in search (rules, w)
 
-pub put_part-behind-requires : goal.put_part-behind-requires
-put_part-behind-requires c =
-    let w = c.loop-end.invariant c.requires.fits.objects c.requires.fits.whole c.requires.fits.packs in
-    let part = part_fits _ _ _ _ _ _ _ _ _ _ w _ _ _ _ c.open_part-part.ensures.opens_part c.requires.fits.one c.open_part-part.ensures.inside in
-    record { nodetype_bound = c.requires.nodetype_bound; at_in_bounds = part.0; fits_part = part.1 }
+pub open_for-opened-requires : goal.open_for-opened-requires
+open_for-opened-requires c =
+    let f = c.requires.fits in
+    let w = c.loop-object.invariant f.objects f.whole f.packs in
+    let ready = put_ready _ _ _ _ w.builds f.packs c.requires.array_len.2 in
+    record { le_at = ready.0; at_in_bounds = ready.1 }
 
-pub loop-end-smaller-in-Into : goal.loop-end-smaller-in-Into
-loop-end-smaller-in-Into c =
-    let w = c.loop-end.invariant c.requires.fits.objects c.requires.fits.whole c.requires.fits.packs in
-    (enter_on _ _ _ (sym c.enter.ensures ∙ c.in-Into.is) w.inside).0
+pub put_object-requires : goal.put_object-requires
+put_object-requires c =
+    let f = c.requires.fits in
+    let w = c.loop-object.invariant f.objects f.whole f.packs in
+    let room = put_room _ _ _ _ _ _ _ _ _ _ w _ c.in-Some-next.ensures.steps.0 c.in-Some-next.ensures.steps.1 _ _ _ _ c.open_for-opened.ensures f.one in
+    record { nodetype_bound = c.requires.nodetype_bound; body_in_bounds = room.0; out_len_bound = room.1 }
 
-pub loop-end-preserved-in-Into : goal.loop-end-preserved-in-Into
-loop-end-preserved-in-Into c = λ os q u.
-    let one = placed_one c.requires.fits os q in
-    let w = c.loop-end.invariant os q u in
-    placing_enter _ _ _ _ os _ _ _ _ (placing_part _ _ _ _ _ _ _ _ _ _ w _ _ _ _ c.open_part-part.ensures.opens_part one c.open_part-part.ensures.inside c.put_part-behind.ensures.put (record { at = c.loop-end.end }) (sym c.if-part-end.true)) (sym c.enter.ensures ∙ c.in-Into.is)
+pub loop-object-preserved : goal.loop-object-preserved
+loop-object-preserved c = λ os q u.
+    let w = c.loop-object.invariant os q u in
+    put_onward _ _ _ _ _ _ _ _ _ _ w _ c.in-Some-next.ensures.steps.0 c.in-Some-next.ensures.steps.1 _ _ _ _ c.open_for-opened.ensures (placed_one c.requires.fits os q) _ _ c.put_object.ensures
 
-pub returns-in-Short : goal.returns-in-Short
-returns-in-Short c =
-    let w = c.loop-end.invariant c.requires.fits.objects c.requires.fits.whole c.requires.fits.packs in
-    let after = placing_part _ _ _ _ _ _ _ _ _ _ w _ _ _ _ c.open_part-part.ensures.opens_part c.requires.fits.one c.open_part-part.ensures.inside c.put_part-behind.ensures.put (record { at = c.loop-end.end }) (sym c.if-part-end.true) in
-    placing_cut _ _ _ _ _ _ _ _ _ after (sym c.enter.ensures ∙ c.in-Short.is)
+pub loop-data-preserved : goal.loop-data-preserved
+loop-data-preserved c = λ os q u. put_out _ _ _ _ _ _ _ _ _ _ (c.loop-object.invariant os q u) c.in_default-next.ensures.steps.0.0 c.in_default-next.ensures.steps.1
 
 pub flush-requires : goal.flush-requires
 flush-requires c =
-    let all = let w = c.loop-end.invariant c.requires.fits.objects c.requires.fits.whole c.requires.fits.packs in
-    let after = placing_part _ _ _ _ _ _ _ _ _ _ w _ _ _ _ c.open_part-part.ensures.opens_part c.requires.fits.one c.open_part-part.ensures.inside c.put_part-behind.ensures.put (record { at = c.loop-end.end }) (sym c.if-part-end.true) in
-    placing_ready _ _ _ _ _ _ _ _ _ _ after c.requires.fits.packs c.requires.array_len.2 in
-    record { le_at = all.0; at_in_bounds = all.1 }
+    let f = c.requires.fits in
+    let w = c.loop-data.invariant f.objects f.whole f.packs in
+    let ready = put_ready _ _ _ _ w.builds f.packs c.requires.array_len.2 in
+    record { le_at = ready.0; at_in_bounds = ready.1 }
 
-pub returns-in-Nothing : goal.returns-in-Nothing
-returns-in-Nothing c =
-    let w = c.loop-end.invariant c.requires.fits.objects c.requires.fits.whole c.requires.fits.packs in
-    let after = placing_part _ _ _ _ _ _ _ _ _ _ w _ _ _ _ c.open_part-part.ensures.opens_part c.requires.fits.one c.open_part-part.ensures.inside c.put_part-behind.ensures.put (record { at = c.loop-end.end }) (sym c.if-part-end.true) in
-    placed _ c.requires.fits (placing_end _ _ _ _ _ _ _ _ _ after (sym c.enter.ensures ∙ c.in-Nothing.is) c.flush.ensures.put)
-
-pub loop-end-preserved : goal.loop-end-preserved
-loop-end-preserved c = λ os q u.
-    let one = placed_one c.requires.fits os q in
-    let w = c.loop-end.invariant os q u in
-    placing_part _ _ _ _ _ _ _ _ _ _ w _ _ _ _ c.open_part-part.ensures.opens_part one c.open_part-part.ensures.inside c.put_part-behind.ensures.put _ (behind_at _ _ _ _ _ _ _ _ _ _ w _ _ _ _ c.open_part-part.ensures.opens_part one c.open_part-part.ensures.inside c.put_part-behind.ensures.reached)
+pub returns : goal.returns
+returns c =
+    let f = c.requires.fits in
+    let w = c.loop-data.invariant f.objects f.whole f.packs in
+    placed _ f (put_close _ _ _ _ _ _ _ _ _ w c.in_default.ensures.steps.0.0 c.in_default.ensures.steps.1 c.flush.ensures.put)

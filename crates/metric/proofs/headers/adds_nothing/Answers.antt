@@ -7,4 +7,4 @@ pub returns-then-is_scalar : goal.returns-then-is_scalar
 returns-then-is_scalar c = unknown_by _ _ c.is_none.ensures ∙ rw (c.link_value.ensures, ← adds_by _ _, sym c.is_scalar.ensures, c.if-is_scalar.true)
 
 pub returns : goal.returns
-returns c = rw (c.is_known.ensures, ← adds_by _ _, sym c.is_scalar.ensures, c.if-is_scalar.false)
+returns c = rw (c.is_known.ensures, c.from.ensures, ← adds_by _ _, sym c.is_scalar.ensures, c.if-is_scalar.false)
