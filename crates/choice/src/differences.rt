@@ -7,7 +7,7 @@ use crate::preference;
 use model::{Own, Parent};
 
 // What unbarred candidates are compared by, in this order; edition 1 compares by the last three alone.
-#[derive(Clone, Copy, PartialEq, Eq, PartialOrd, Ord, Debug)]
+#[derive(Clone, Copy, PartialEq, Eq, PartialOrd, Ord)]
 pub enum Criterion {
     Order = 1,
     Grounded = 2,
@@ -27,7 +27,7 @@ impl Criterion {
 }
 
 // A criterion, and what one candidate and another have there, as their fields say it: of yes and no, yes is 1.
-#[derive(Clone, Copy, PartialEq, Eq, Debug)]
+#[derive(Clone, Copy, PartialEq, Eq)]
 pub struct Difference {
     pub criterion: Criterion,
     pub value: u16,

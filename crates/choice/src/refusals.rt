@@ -7,7 +7,7 @@ use model::Own;
 
 // Why a call is refused: MinHopRankIncrease is 0 or the own type unknown; more than 16 candidates; a current position past the count; an
 // output of fewer than 2,056 bytes; an edition other than 1 and 2.
-#[derive(Clone, Copy, PartialEq, Eq, Debug)]
+#[derive(Clone, Copy, PartialEq, Eq)]
 pub enum Refusal {
     Own = 1,
     Count = 2,

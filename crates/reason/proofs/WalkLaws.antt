@@ -12,7 +12,7 @@ use Rattle.model.specs.declared.Neighbour.{Neighbour}
 use Rattle.model.specs.Object.{Object, behind}
 use Rattle.model.specs.Reading as model
 use Rattle.model.specs.Reading.{well_formed}
-use Rattle.model.specs.Run.{run_objects, option_cut}
+use Rattle.model.specs.Run.{read_run, run_objects, option_cut}
 use Rattle.model.specs.Constraint.{summary}
 use Rattle.model.proofs.RunLaws.{run_objects_lem}
 use Rattle.wire.specs.Front.{front, left, ends_at}
@@ -69,7 +69,7 @@ module _ (run : List ℕ) (place : ℕ) where
     pub seeks_on : (away ≡ 0 → ⊥) → SeeksIn run rest y place (away - 1)
     seeks_on z = record { earlier = w.earlier ++ (o ∷ []); inside = after; far = rw (length-append w.earlier (o ∷ [])) (omega (arith, w.far)) }
 
-    pub seeks_here : (os : List Object) → away ≡ 0 → run_objects run ≡ some os → get_elem? os place ≡ some o
+    seeks_here : (os : List Object) → away ≡ 0 → run_objects run ≡ some os → get_elem? os place ≡ some o
     seeks_here os z r = go _ (sym r ∙ after.so_far)
       where
         go : (v : Option (List Object)) → some os ≡ behind (w.earlier ++ (o ∷ [])) v → get_elem? os place ≡ some o
@@ -79,12 +79,18 @@ module _ (run : List ℕ) (place : ℕ) where
             let f : place ≡ length w.earlier = omega (arith, w.far) in
             rw (p, append_assoc w.earlier (o ∷ []) later, f) (at_seam w.earlier o later)
 
-  pub seeks_end : (x y : List ℕ) (away : ℕ) → Seeks run x place away → data_front x ≡ [] → options_left x ≡ y → (os : List Object) → model.Reading → run_objects run ≡ some os → option_cut run ≡ false
-      → get_elem? os place ≡ none
-  seeks_end x y away w e l os m r u =
+    pub here_asked : (c : Neighbour) (s : Summary) (os : List Object) → read_run run ≡ well_formed os → away ≡ 0 → object_finding c s (some o) ≡ object_finding c s (get_elem? os place)
+    here_asked c s os f z = rw (seeks_here os z (run_objects_lem run os f).objects) refl
+
+  pub end_asked : (x y : List ℕ) (away : ℕ) → Seeks run x place away → data_front x ≡ [] → options_left x ≡ y → (c : Neighbour) (s : Summary) (os : List Object) → read_run run ≡ well_formed os
+      → nothing ≡ object_finding c s (get_elem? os place)
+  end_asked x y away w e l c s os f =
+      let r = run_objects_lem run os f in
+      let u : option_cut run ≡ false = rw r.options_are in
       let a = all_done run x y w.earlier w.between e l u in
-      let q : w.earlier ≡ os = cc in
-      rw (← q) (at_end w.earlier place (omega (arith, w.far)))
+      let q : os ≡ w.earlier = let z = r.objects in cc in
+      let m : length os ≤ place = rw q (omega (arith, w.far)) in
+      rw (at_end os place m) refl
 
 -- ---- a run that is read
 
@@ -102,8 +108,8 @@ read_unmet c (model.well_formed os) k {s = s} e h = let q : s ≡ summary os = c
 
 -- its run is well-formed
 pub read_formed : (run : List ℕ) {count : ℕ} {asked : Bool} {s : Summary} → WellFormed count asked s ≡ reading_of (read_run run) → judged.WellFormed run
-read_formed run e = go (read_run run) refl e
+read_formed run {count} {asked} {s} e = go (read_run run) refl e
   where
-    go : (r : model.Reading) → read_run run ≡ r → WellFormed _ _ _ ≡ reading_of r → judged.WellFormed run
+    go : (r : model.Reading) → read_run run ≡ r → WellFormed count asked s ≡ reading_of r → judged.WellFormed run
     go (model.refused n p) q e = absurd (let z : ◌≡◌ {A = ℕ} 0 1 = cc in omega arith)
     go (model.well_formed os) q e = record { objects = os; read = q }

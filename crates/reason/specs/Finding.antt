@@ -126,10 +126,6 @@ abbrev pub hops_finding : Quantity → (limit : ℕ) → Finding
 hops_finding (Some v) limit = finding 23 0 limit v
 hops_finding None limit = finding 24 0 limit 0
 
--- inside the crate: the same by one number, one more than the count, 0 for none
-unfoldable pub hops_told : (hops limit : ℕ) → Finding
-hops_told h limit = cond (eqb h 0) (finding 24 0 limit 0) (finding 23 0 limit (h - 1))
-
 -- throughput: the link's, known by flag 0x20
 unfoldable pub throughput_finding : Neighbour → (limit : ℕ) → Finding
 throughput_finding c limit = cond (is_set (c.flags / 32 % 2)) (finding 25 0 limit c.throughput) (finding 26 0 limit 0)

@@ -33,7 +33,7 @@ fn of_bar(own: Own, candidate: Candidate, bar: Bar, lent: &[u8]) -> Option<Short
     ensures { verdict own lent.now candidate ≡ Barred (bar_number bar) (bar_place bar) → finding_in result ≡ bar_finding own candidate (bar_number bar) (bar_place bar) lent.now }
 {
     let neighbour = candidate.neighbour;
-    if bar == Bar::Numbers {
+    if let Bar::Numbers = bar {
         return ranges::check(own, neighbour).err();
     }
     let start = candidate.start;

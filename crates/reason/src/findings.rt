@@ -5,7 +5,7 @@ ghost use Rattle.reason.specs.Way.{number_of};
 ghost use Rattle.reason.specs.Told.{by_number};
 
 // In what way a candidate falls short; its numbers have the names that `Shortfall` gives them.
-#[derive(Clone, Copy, PartialEq, Eq, PartialOrd, Ord, Debug)]
+#[derive(Clone, Copy, PartialEq, Eq)]
 pub enum Way {
     // Bar 11: the number found is not from which to asked.
     Sp = 1,
@@ -69,7 +69,7 @@ impl Way {
 }
 
 // In what way a candidate falls short, and the numbers of that way; 0 for one that it does not have.
-#[derive(Clone, Copy, PartialEq, Eq, Debug)]
+#[derive(Clone, Copy, PartialEq, Eq)]
 pub struct Shortfall {
     pub way: Way,
     pub which: u64,

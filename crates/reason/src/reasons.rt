@@ -13,7 +13,7 @@ use model::{Bar, Own, Parent, Verdict};
 const NO_PLACE: u16 = 65535;
 
 // Why a question is refused: as a call is, or since its position is not below the count.
-#[derive(Clone, Copy, PartialEq, Eq, Debug)]
+#[derive(Clone, Copy, PartialEq, Eq)]
 pub enum Refused {
     Call(Refusal),
     Position,
@@ -40,7 +40,7 @@ impl From<Refusal> for Refused {
 }
 
 // Where a candidate stands: it is the parent; it is barred; or it is beaten by the parent, first on a criterion.
-#[derive(Clone, Copy, PartialEq, Eq, Debug)]
+#[derive(Clone, Copy, PartialEq, Eq)]
 pub enum Standing {
     Chosen,
     Barred(Bar),
@@ -48,7 +48,7 @@ pub enum Standing {
 }
 
 // The kinds of a reason.
-#[derive(Clone, Copy, PartialEq, Eq, Debug)]
+#[derive(Clone, Copy, PartialEq, Eq)]
 pub enum Kind {
     Refused = 0,
     Chosen = 1,
@@ -146,7 +146,12 @@ fn beside(own: Own, choice: Option<Parent>, candidate: Parent) -> Standing
 
 // A candidate by its verdict and the choice.
 #[tactic(auto, unfolding(crate::specs::Why::by_verdict))]
-pub(crate) fn by_verdict(own: Own, choice: Option<Parent>, position: u8, verdict: Verdict) -> Standing
+pub(crate) fn by_verdict(
+    own: Own,
+    choice: Option<Parent>,
+    position: u8,
+    verdict: Verdict,
+) -> Standing
     ensures { standing_of result ≡ by_verdict (current_of own) (choice_in choice) position (verdict_of verdict) }
 {
     match verdict {

@@ -8,7 +8,7 @@ use Rattle.model.specs.Reading.{no_place}
 use Rattle.choice.specs.Given.{blank}
 use Rattle.reason.specs.Why.{refused}
 use Rattle.reason.specs.Standing.{refused_by, why_of}
-use Rattle.reason.proofs.WhyLaws.{asks_first, asks_more, asks_end, asked_within, refused_answer_lem, told_answer}
+use Rattle.reason.proofs.WhyLaws.{kept_of, asks_first, asks_more, asks_end, asked_within, refused_answer_lem, told_answer}
 use Rattle.reason.proofs.ask.Goals as goal
 
 pub returns-in_err-check_question : goal.returns-in_err-check_question

@@ -1,7 +1,7 @@
 use mathlib.Core.Path.{◌∙◌}
 use Rattle.reason.specs.Finding.{asked_with}
 use Rattle.reason.proofs.LimitLaws.{limit_by}
-use Rattle.reason.proofs.asked.of_type.Goals as goal
+use Rattle.reason.proofs.asked.of_object.Goals as goal
 
 pub returns-in-5 : goal.returns-in-5
 unfolding asked_with
