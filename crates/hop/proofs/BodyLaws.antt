@@ -1,6 +1,7 @@
 -- Bodies that are put into an output, by what code tests.
 use mathlib.Core.Path.{◌≡◌, refl, sym, ap, ◌∙◌}
-use Prim.Native.Nat.{ℕ, suc, ◌+◌, ◌-◌, ◌/◌, ◌%◌, ◌≤◌, ◌<◌}
+use Prim.Native.Nat.{ℕ, zero, suc, ◌+◌, ◌-◌, ◌/◌, ◌%◌, ◌≤◌, ◌<◌}
+use native.Mathlib.Nat.{div-one}
 use native.Mathlib.Omega.{arith}
 use mathlib.Core.Bool.{Bool, true, false, cond, ◌||◌, false≢true}
 use mathlib.Core.List.{List, [], ◌∷◌, ◌++◌}
@@ -10,6 +11,8 @@ use lib.Dec.{ltb, eqb}
 use borrow.Author.Tests.{ltb-true, eq-eqb, ne_eqb, eqb-true, eqb-false}
 use Rattle.model.specs.Number.{Quantity}
 use Rattle.std.specs.Prelude.{Some, None}
+use Rattle.std.specs.Int.{to_be_bytes}
+use mir.Syntax.{w32}
 use Rattle.model.specs.declared.Own.{Own}
 use Rattle.model.specs.declared.Neighbour.{Neighbour}
 use Rattle.model.specs.Number.{number, big_endian}
@@ -17,6 +20,7 @@ use Rattle.model.specs.Object.{kind_of}
 use Rattle.model.specs.Constraint.{energy_in}
 use Rattle.model.specs.Update.{local_value, value_or_0, combine, on_two, on_field, aggregated_body, sub_object, clear_each, own_energy, behind_reserved, counted_body, clear_colour, coloured_body, recorded_body}
 use Rattle.model.proofs.BoolLaws.{both}
+use Rattle.model.proofs.RoundTrip.{length-big_endian}
 use Rattle.model.proofs.TypeLaws.{by_type}
 use Rattle.wire.specs.Put.{Put}
 use Rattle.wire.proofs.PutLaws.{put_cons, put_length}
@@ -58,11 +62,17 @@ on_field_lem w f b h d e p = rw (eq-eqb (length b) w h) (rw (e, d) at p)
 
 -- ---- sub-objects
 
-pub sub_known : {l m : List ℕ} {at n v : ℕ} (w : ℕ) (q : Quantity) → q ≡ Some v → Put l at (big_endian w v) n m → Put l at (sub_object w q) n m
-sub_known w q e p = rw e p
+-- the last bytes of a number's four
+pub low_bytes : (w n : ℕ) → w ≤ 4 → take (4 - (4 - w)) (drop (4 - w) (to_be_bytes w32 n)) ≡ big_endian w n
+low_bytes zero n h = refl
+low_bytes (suc zero) n h = rw (div-one n)
+low_bytes (suc (suc zero)) n h = rw (div-one n)
+low_bytes (suc (suc (suc zero))) n h = rw (div-one n)
+low_bytes (suc (suc (suc (suc zero)))) n h = rw (div-one n)
+low_bytes (suc (suc (suc (suc (suc w))))) n h = absurd (omega arith)
 
-pub sub_unknown : (l : List ℕ) (at w : ℕ) (q : Quantity) → q ≡ None → Put l at [] at l → Put l at (sub_object w q) at l
-sub_unknown l at w q e p = rw e p
+pub sub_room : {room v : ℕ} (at w : ℕ) (q : Quantity) → q ≡ Some v → at + length (sub_object w q) ≤ room → at + w ≤ room
+sub_room {v = v} at w q e h = let n = ap (λ x. length (sub_object w x)) e ∙ length-big_endian w v in omega arith
 
 -- ---- sub-objects behind a reserved byte
 

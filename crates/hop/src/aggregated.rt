@@ -7,7 +7,7 @@ ghost use Rattle.wire.specs.Put.{Put};
 ghost use Rattle.metric.specs.Next.{clear_first, combine_second};
 
 use crate::bytes;
-use model::{Neighbour, Own};
+use crate::parent::Hop;
 use wire::Header;
 
 // Puts the body of an aggregated node metric.
@@ -35,7 +35,7 @@ fn put_field_4(out: &mut [u8], at: usize, a: u8, v: u32, body: &[u8]) -> usize
     if body.len() != 4 {
         return bytes::put_bytes(out, at, body);
     }
-    bytes::put_4(
+    bytes::put_number::<4>(
         out,
         at,
         metric::combine(a, 4294967295, wire::number_4(body), v),
@@ -50,7 +50,7 @@ fn put_field_2(out: &mut [u8], at: usize, a: u8, v: u32, body: &[u8]) -> usize
     if body.len() != 2 {
         return bytes::put_bytes(out, at, body);
     }
-    bytes::put_2(
+    bytes::put_number::<2>(
         out,
         at,
         metric::combine(a, 65535, wire::number_2(body) as u32, v),
@@ -61,17 +61,16 @@ fn put_field_2(out: &mut [u8], at: usize, a: u8, v: u32, body: &[u8]) -> usize
 pub(crate) fn put_aggregated(
     out: &mut [u8],
     at: usize,
-    own: Own,
-    neighbour: Neighbour,
+    hop: Hop,
     header: Header,
     body: &[u8],
 ) -> usize
     requires { at + length body.now ≤ length out.old }
-    ensures { Put out.old at (aggregated_body (kind_of header.mctype) (header.mode / 16 % 8) (value_or_0 (local_value own neighbour (kind_of header.mctype))) body.now) result out.new }
+    ensures { Put out.old at (aggregated_body (kind_of header.mctype) (header.mode / 16 % 8) (value_or_0 (local_value hop.own hop.neighbour (kind_of header.mctype))) body.now) result out.new }
 {
     let t = header.mctype;
     let a = header.mode / 16 % 8;
-    let v = metric::local_or_0(own, neighbour, t);
+    let v = metric::local_or_0(hop.own, hop.neighbour, t);
     if (t == 4) | (t == 5) {
         return put_field_4(out, at, a, v, body);
     }

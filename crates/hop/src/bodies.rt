@@ -6,8 +6,8 @@ ghost use Rattle.model.specs.Update as update;
 ghost use Rattle.wire.specs.Put.{Put};
 ghost use Rattle.metric.specs.Next.{clear_first, clear_second};
 
+use crate::parent::Hop;
 use crate::{aggregated, bytes, colours, recorded};
-use model::{Neighbour, Own};
 use wire::Header;
 
 // Puts a constraint's body.
@@ -28,17 +28,9 @@ fn put_constraint(out: &mut [u8], at: usize, mctype: u8, body: &[u8]) -> usize
 }
 
 // Puts the body of an object.
-pub(crate) fn put_body(
-    out: &mut [u8],
-    at: usize,
-    own: Own,
-    neighbour: Neighbour,
-    header: Header,
-    body: &[u8],
-) -> usize
-    requires nodetype_bound { (own.nodetype ≤ 3) × (neighbour.lql ≤ 7) × (neighbour.colour ≤ 1023) }
-    requires body_in_bounds { at + length (next_body own neighbour (kind_of header.mctype) (role_of header.flags header.mode) (header.mode / 16 % 8) body.now) ≤ length out.old }
-    ensures { Put out.old at (next_body own neighbour (kind_of header.mctype) (role_of header.flags header.mode) (header.mode / 16 % 8) body.now) result out.new }
+pub(crate) fn put_body(out: &mut [u8], at: usize, hop: Hop, header: Header, body: &[u8]) -> usize
+    requires body_in_bounds { at + length (next_body hop.own hop.neighbour (kind_of header.mctype) (role_of header.flags header.mode) (header.mode / 16 % 8) body.now) ≤ length out.old }
+    ensures { Put out.old at (next_body hop.own hop.neighbour (kind_of header.mctype) (role_of header.flags header.mode) (header.mode / 16 % 8) body.now) result out.new }
 {
     if header.is_constraint() {
         if header.mctype == 8 {
@@ -47,7 +39,7 @@ pub(crate) fn put_body(
         return put_constraint(out, at, header.mctype, body);
     }
     if header.is_recorded() {
-        return recorded::put_recorded(out, at, own, neighbour, header.mctype, body);
+        return recorded::put_recorded(out, at, hop, header.mctype, body);
     }
-    aggregated::put_aggregated(out, at, own, neighbour, header, body)
+    aggregated::put_aggregated(out, at, hop, header, body)
 }

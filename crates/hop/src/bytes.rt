@@ -4,17 +4,14 @@ ghost use Rattle.model.specs.Number.{big_endian};
 ghost use Rattle.wire.specs.Put.{Put};
 
 // Puts a run of bytes.
+#[inline(never)]
 pub(crate) fn put_bytes(out: &mut [u8], at: usize, bytes: &[u8]) -> usize
     requires { at + length bytes.now ≤ length out.old }
     ensures { Put out.old at bytes.now result out.new }
 {
-    let n = bytes.len();
-    let mut i: usize = 0;
-    while i < n {
-        out[at + i] = bytes[i];
-        i += 1;
-    }
-    at + n
+    let end = at + bytes.len();
+    out[at..end].copy_from_slice(bytes);
+    end
 }
 
 // Puts a body whose first two bytes are changed.
@@ -27,24 +24,12 @@ pub(crate) fn put_two(out: &mut [u8], at: usize, first: u8, second: u8, body: &[
     put_bytes(out, at + 2, &body[2..])
 }
 
-// Puts a number of four bytes.
-pub(crate) fn put_4(out: &mut [u8], at: usize, n: u32) -> usize
-    requires { at + 4 ≤ length out.old }
-    ensures { Put out.old at (big_endian 4 n) result out.new }
+// Puts a number in WIDTH bytes, high byte first.
+pub(crate) fn put_number<const WIDTH: usize>(out: &mut [u8], at: usize, n: u32) -> usize
+    requires width { WIDTH ≤ 4 }
+    requires room { at + WIDTH ≤ length out.old }
+    ensures { Put out.old at (big_endian WIDTH n) result out.new }
 {
-    out[at] = (n / 16777216 % 256) as u8;
-    out[at + 1] = (n / 65536 % 256) as u8;
-    out[at + 2] = (n / 256 % 256) as u8;
-    out[at + 3] = (n % 256) as u8;
-    at + 4
-}
-
-// Puts a number in two bytes.
-pub(crate) fn put_2(out: &mut [u8], at: usize, n: u32) -> usize
-    requires { at + 2 ≤ length out.old }
-    ensures { Put out.old at (big_endian 2 n) result out.new }
-{
-    out[at] = (n / 256 % 256) as u8;
-    out[at + 1] = (n % 256) as u8;
-    at + 2
+    let bytes = n.to_be_bytes();
+    put_bytes(out, at, &bytes[4 - WIDTH..])
 }

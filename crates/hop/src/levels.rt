@@ -11,16 +11,14 @@ pub(crate) fn put_levels(out: &mut [u8], at: usize, level: u8, subs: &[u8]) -> u
     requires subs_in_bounds { at + length (count_level level subs.now) ≤ length out.old }
     ensures { Put out.old at (count_level level subs.now) result out.new }
 {
-    let mut i: usize = 0;
-    while i < subs.len() {
-        let sub = subs[i];
-        if metric::counts_in(level, sub) {
-            out[at + i] = sub + 1;
+    for (i, sub) in subs.iter().enumerate() {
+        if metric::counts_in(level, *sub) {
+            out[at + i] = *sub + 1;
             return bytes::put_bytes(out, at + i + 1, &subs[i + 1..]);
         }
-        out[at + i] = sub;
-        i += 1;
+        out[at + i] = *sub;
     }
-    out[at + i] = level * 32 + 1;
-    at + i + 1
+    let end = at + subs.len();
+    out[end] = level * 32 + 1;
+    end + 1
 }

@@ -6,6 +6,7 @@ mod bodies;
 mod bytes;
 mod colours;
 mod levels;
+mod parent;
 mod plan;
 mod recorded;
 mod sending;

@@ -6,27 +6,17 @@ ghost use Rattle.model.specs.Update.{sub_object, clear_each, own_energy, counted
 ghost use Rattle.model.specs.Update as update;
 ghost use Rattle.wire.specs.Put.{Put};
 
+use crate::parent::Hop;
 use crate::{bytes, colours, levels};
-use model::{Neighbour, Own};
 
-// Puts the link's value as a sub-object of four bytes, where it is known.
-fn put_sub_4(out: &mut [u8], at: usize, q: Option<u32>) -> usize
-    requires { at + length (sub_object 4 q) ≤ length out.old }
-    ensures { Put out.old at (sub_object 4 q) result out.new }
+// Puts the link's value as a sub-object of WIDTH bytes, where it is known.
+fn put_sub<const WIDTH: usize>(out: &mut [u8], at: usize, q: Option<u32>) -> usize
+    requires width { WIDTH ≤ 4 }
+    requires room { at + length (sub_object WIDTH q) ≤ length out.old }
+    ensures { Put out.old at (sub_object WIDTH q) result out.new }
 {
     match q {
-        Some(v) => bytes::put_4(out, at, v),
-        None => at,
-    }
-}
-
-// Puts the link's value as a sub-object of two bytes, where it is known.
-fn put_sub_2(out: &mut [u8], at: usize, q: Option<u32>) -> usize
-    requires { at + length (sub_object 2 q) ≤ length out.old }
-    ensures { Put out.old at (sub_object 2 q) result out.new }
-{
-    match q {
-        Some(v) => bytes::put_2(out, at, v),
+        Some(v) => bytes::put_number::<WIDTH>(out, at, v),
         None => at,
     }
 }
@@ -51,11 +41,11 @@ fn put_energies(out: &mut [u8], at: usize, body: &[u8]) -> usize
 }
 
 // Puts the sub-object of this node behind those of a recorded NE: own type, I=0, E and E_E.
-fn put_own_energy(out: &mut [u8], at: usize, own: Own) -> usize
-    requires nodetype_bound { own.nodetype ≤ 3 }
-    requires at_in_bounds { at + 2 ≤ length out.old }
-    ensures { Put out.old at (own_energy own.nodetype (energy_in own.flags own.energy)) result out.new }
+fn put_own_energy(out: &mut [u8], at: usize, hop: Hop) -> usize
+    requires { at + 2 ≤ length out.old }
+    ensures { Put out.old at (own_energy hop.own.nodetype (energy_in hop.own.flags hop.own.energy)) result out.new }
 {
+    let own = hop.own;
     if own.flags / 4 % 2 == 1 {
         out[at] = own.nodetype * 2 + 1;
         out[at + 1] = own.energy;
@@ -80,36 +70,28 @@ fn put_counted(out: &mut [u8], at: usize, level: u8, body: &[u8]) -> usize
 }
 
 // Puts the body of a recorded metric: the local value behind the last sub-object, for throughput before the first.
-pub(crate) fn put_recorded(
-    out: &mut [u8],
-    at: usize,
-    own: Own,
-    neighbour: Neighbour,
-    mctype: u8,
-    body: &[u8],
-) -> usize
-    requires nodetype_bound { (own.nodetype ≤ 3) × (neighbour.lql ≤ 7) × (neighbour.colour ≤ 1023) }
-    requires body_in_bounds { at + length (recorded_body own neighbour (kind_of mctype) body.now) ≤ length out.old }
-    ensures { Put out.old at (recorded_body own neighbour (kind_of mctype) body.now) result out.new }
+pub(crate) fn put_recorded(out: &mut [u8], at: usize, hop: Hop, mctype: u8, body: &[u8]) -> usize
+    requires body_in_bounds { at + length (recorded_body hop.own hop.neighbour (kind_of mctype) body.now) ≤ length out.old }
+    ensures { Put out.old at (recorded_body hop.own hop.neighbour (kind_of mctype) body.now) result out.new }
 {
     if mctype == 2 {
         let end = put_energies(out, at, body);
-        return put_own_energy(out, end, own);
+        return put_own_energy(out, end, hop);
     }
     if mctype == 6 {
-        return put_counted(out, at, neighbour.lql, body);
+        return put_counted(out, at, hop.neighbour.lql, body);
     }
     if mctype == 8 {
-        return colours::put_coloured(out, at, neighbour.colour, body);
+        return colours::put_coloured(out, at, hop.neighbour.colour, body);
     }
-    let q = metric::link_value(neighbour, mctype);
+    let q = metric::link_value(hop.neighbour, mctype);
     if mctype == 4 {
-        let end = put_sub_4(out, at, q);
+        let end = put_sub::<4>(out, at, q);
         return bytes::put_bytes(out, end, body);
     }
     let end = bytes::put_bytes(out, at, body);
     if mctype == 7 {
-        return put_sub_2(out, end, q);
+        return put_sub::<2>(out, end, q);
     }
-    put_sub_4(out, end, q)
+    put_sub::<4>(out, end, q)
 }

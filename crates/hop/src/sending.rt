@@ -14,6 +14,7 @@ ghost use Rattle.wire.specs.Put.{Put};
 ghost use Rattle.hop.specs.Sent.{unfit, sends, sent_of, told_by};
 ghost use Rattle.hop.specs.Built.{Fits, OpensFor};
 
+use crate::parent::Hop;
 use crate::{bodies, bytes, plan};
 use metric::Leaf;
 use model::{Neighbour, Own};
@@ -27,17 +28,16 @@ pub struct Place {
 }
 
 // Puts an object for the next hop at an index; answers the index behind it.
-fn put_object(out: &mut [u8], at: usize, own: Own, neighbour: Neighbour, object: Object) -> usize
-    requires nodetype_bound { (own.nodetype ≤ 3) × (neighbour.lql ≤ 7) × (neighbour.colour ≤ 1023) }
-    requires body_in_bounds { at + length (bytes_of (update_object own neighbour (seen object))) ≤ length out.old }
+fn put_object(out: &mut [u8], at: usize, hop: Hop, object: Object) -> usize
+    requires body_in_bounds { at + length (bytes_of (update_object hop.own hop.neighbour (seen object))) ≤ length out.old }
     requires out_len_bound { length out.old ≤ 257 }
-    ensures { Put out.old at (bytes_of (update_object own neighbour (seen object.entry))) result out.new }
+    ensures { Put out.old at (bytes_of (update_object hop.own hop.neighbour (seen object.entry))) result out.new }
 {
     let header = object.header;
     out[at] = header.mctype;
-    out[at + 1] = metric::next_flags(neighbour, header);
+    out[at + 1] = metric::next_flags(hop.neighbour, header);
     out[at + 2] = metric::next_mode(header);
-    let end = bodies::put_body(out, at + 4, own, neighbour, header, object.body);
+    let end = bodies::put_body(out, at + 4, hop, header, object.body);
     out[at + 3] = (end - at - 4) as u8;
     end
 }
@@ -88,28 +88,20 @@ fn open_for(
 }
 
 // Puts the containers of a run's objects for the next hop.
-fn put_objects(
-    out: &mut [u8],
-    array: &mut [u8],
-    own: Own,
-    neighbour: Neighbour,
-    run: &[u8],
-    many: bool,
-)
-    requires nodetype_bound { (own.nodetype ≤ 3) × (neighbour.lql ≤ 7) × (neighbour.colour ≤ 1023) }
+fn put_objects(out: &mut [u8], array: &mut [u8], hop: Hop, run: &[u8], many: bool)
     requires array_len { (length array.old ≡ 257) × (get_or array.old 0 0 ≡ 2) × (2056 ≤ length out.old) }
-    requires fits { Fits own neighbour run.now many }
-    ensures { (os : List model.Object) → run_objects run.now ≡ some os → out.new ≡ sets out.old 0 (packed (update own neighbour os)) }
+    requires fits { Fits hop.own hop.neighbour run.now many }
+    ensures { (os : List model.Object) → run_objects run.now ≡ some os → out.new ≡ sets out.old 0 (packed (update hop.own hop.neighbour os)) }
 {
     let mut place = Place { done: 0, at: 2 };
     let mut containers = Containers::new(run);
     while let Some(data) = containers.next() {
         let mut objects = Objects::new(data);
         while let Some(object) = objects.next() {
-            let opened = open_for(out, array, place, neighbour, object, many);
+            let opened = open_for(out, array, place, hop.neighbour, object, many);
             place = Place {
                 done: opened.done,
-                at: put_object(array, opened.at, own, neighbour, object),
+                at: put_object(array, opened.at, hop, object),
             };
         }
     }
@@ -139,6 +131,6 @@ pub fn send(own: Own, neighbour: Neighbour, run: &[u8], out: &mut [u8]) -> Resul
     }
     let mut built = [0u8; 257];
     built[0] = 2;
-    put_objects(out, &mut built, own, neighbour, run, 257 < size);
+    put_objects(out, &mut built, Hop { own, neighbour }, run, 257 < size);
     sent
 }

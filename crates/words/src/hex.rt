@@ -16,7 +16,7 @@ fn first_byte(text: &[u8]) -> Option<(u8, &[u8])>
     Some((byte, rest))
 }
 
-// Puts the bytes that a text spells at the start of an output, up to what spells none or the output's end; answers how many they are.
+// Puts the bytes that a text spells at the start of an output, up to what spells none or the output's end; answers how many.
 pub fn bytes(text: &[u8], out: &mut [u8]) -> usize
     ensures value { result ≡ length (spelled text.now (length out.old)) }
     ensures written { out.new ≡ spelled_in text.now out.old }

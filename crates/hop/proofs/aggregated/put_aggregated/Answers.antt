@@ -13,8 +13,8 @@ returns-then-t-eq7 c = aggregated_2 _ _ _ c.local_or_0-v.ensures c.if-t.false c.
 pub overflow_cast-v : goal.overflow_cast-v
 overflow_cast-v c =
     let args = c.args in
-    let byte : args.own.energy ≤ 255 = search rules in
-    omega (arith, c.local_or_0-v.ensures, node_value args.own args.neighbour args.header.mctype byte c.if-t-2.true)
+    let byte : args.hop.own.energy ≤ 255 = search rules in
+    omega (arith, c.local_or_0-v.ensures, node_value args.hop.own args.hop.neighbour args.header.mctype byte c.if-t-2.true)
 
 pub returns-then-t-2 : goal.returns-then-t-2
 returns-then-t-2 c = aggregated_node _ _ _ c.local_or_0-v.ensures c.if-t.false c.if-t-eq7.false c.if-t-2.true c.put_node.ensures

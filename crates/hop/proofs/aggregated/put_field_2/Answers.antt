@@ -7,4 +7,4 @@ use Rattle.hop.proofs.aggregated.put_field_2.Goals as goal
 pub returns : goal.returns
 returns c =
     let args = c.args in
-    on_field_lem 2 (λ x. combine args.a 65535 x args.v) _ c.if-body-ne2.false (c.number_2.ensures ∙ number_in_lem 2 _ c.if-body-ne2.false) c.combine.ensures c.put_2.ensures
+    on_field_lem 2 (λ x. combine args.a 65535 x args.v) _ c.if-body-ne2.false (c.number_2.ensures ∙ number_in_lem 2 _ c.if-body-ne2.false) c.combine.ensures c.put_number.ensures

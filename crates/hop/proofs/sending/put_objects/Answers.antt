@@ -3,7 +3,7 @@ use Rattle.hop.proofs.SendLaws.{put_start, put_ready, put_into, put_room, put_on
 use Rattle.hop.proofs.sending.put_objects.Goals as goal
 
 pub loop-data-init : goal.loop-data-init
-loop-data-init c = λ os q u. let w = put_start c.args.own c.args.neighbour c.args.out.now os c.args.run.now c.args.array.now q u c.requires.array_len.0 c.requires.array_len.1 in search (rules, w)
+loop-data-init c = λ os q u. let w = put_start c.args.hop.own c.args.hop.neighbour c.args.out.now os c.args.run.now c.args.array.now q u c.requires.array_len.0 c.requires.array_len.1 in search (rules, w)
 
 pub loop-object-init : goal.loop-object-init
 loop-object-init c = λ os q u. let w = put_into _ _ _ _ _ _ _ _ _ _ (c.loop-data.invariant os q u) c.in-Some.ensures.steps.0 c.in-Some.ensures.steps.1 in search (rules, w)
@@ -20,7 +20,7 @@ put_object-requires c =
     let f = c.requires.fits in
     let w = c.loop-object.invariant f.objects f.whole f.packs in
     let room = put_room _ _ _ _ _ _ _ _ _ _ w _ c.in-Some-next.ensures.steps.0 c.in-Some-next.ensures.steps.1 _ _ _ _ c.open_for-opened.ensures f.one in
-    record { nodetype_bound = c.requires.nodetype_bound; body_in_bounds = room.0; out_len_bound = room.1 }
+    record { body_in_bounds = room.0; out_len_bound = room.1 }
 
 pub loop-object-preserved : goal.loop-object-preserved
 loop-object-preserved c = λ os q u.

@@ -10,9 +10,9 @@ use Rattle.hop.proofs.SendLaws.{AtPut, InPut}
 use Rattle.hop.proofs.sending.put_objects.Given as goal
 
 abbrev pub invariant-loop-object : goal.invariant-loop-object
-invariant-loop-object l = (os : List Object) → run_objects l.fn.run ≡ some os → unpackable (update l.own l.neighbour os) ≡ false
-    → InPut l.own l.neighbour l.fn.out os l.containers.rest.now l.objects.rest.now l.place l.out l.array
+invariant-loop-object l = (os : List Object) → run_objects l.fn.run ≡ some os → unpackable (update l.hop.own l.hop.neighbour os) ≡ false
+    → InPut l.hop.own l.hop.neighbour l.fn.out os l.containers.rest.now l.objects.rest.now l.place l.out l.array
 
 abbrev pub invariant-loop-data : goal.invariant-loop-data
-invariant-loop-data l = (os : List Object) → run_objects l.fn.run ≡ some os → unpackable (update l.own l.neighbour os) ≡ false
-    → AtPut l.own l.neighbour l.fn.out os l.containers.rest.now l.place l.out l.array
+invariant-loop-data l = (os : List Object) → run_objects l.fn.run ≡ some os → unpackable (update l.hop.own l.hop.neighbour os) ≡ false
+    → AtPut l.hop.own l.hop.neighbour l.fn.out os l.containers.rest.now l.place l.out l.array
