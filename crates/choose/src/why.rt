@@ -3,6 +3,7 @@ use crate::call::Call;
 use crate::output::Output;
 use crate::{report, sentences};
 use choice::{Criterion, Difference};
+use model::Bar;
 use reason::Standing;
 use std::io;
 use std::io::Write;
@@ -18,7 +19,7 @@ pub(crate) fn line(out: &mut Output, told: &Call, position: usize) -> io::Result
             report::meaning(out, refused.number())?;
         }
         Ok(Standing::Chosen) => write!(out, "chosen")?,
-        Ok(Standing::Barred { number, place }) => barred(out, told, position, number, place)?,
+        Ok(Standing::Barred(bar)) => barred(out, told, position, bar)?,
         Ok(Standing::Beaten { parent, difference }) => {
             write!(out, "beaten by candidate {parent}")?;
             beaten(out, &difference)?;
@@ -29,26 +30,20 @@ pub(crate) fn line(out: &mut Output, told: &Call, position: usize) -> io::Result
 
 // Writes what bars a candidate, with what was asked and found. Of a run that came in parts only what reads alike is kept, so that
 // there is no more to tell where its options bar.
-fn barred(
-    out: &mut Output,
-    told: &Call,
-    position: usize,
-    number: u8,
-    place: u16,
-) -> io::Result<()> {
-    write!(out, "barred by number {number}")?;
-    if let Some(index) = report::object_at(place) {
+fn barred(out: &mut Output, told: &Call, position: usize, bar: Bar) -> io::Result<()> {
+    write!(out, "barred by number {}", bar.number())?;
+    if let Some(index) = bar.place() {
         write!(out, " at object {index}")?;
     }
-    report::meaning(out, number)?;
+    report::meaning(out, bar.number())?;
     let Some(one) = told.candidates.as_slice().get(position) else {
         return Ok(());
     };
-    if one.is_parted() && matches!(number, 22 | 23) {
+    if one.is_parted() && matches!(bar, Bar::Option | Bar::Containers) {
         return Ok(());
     }
     match reason::shortfall(told.own.own, one.candidate, told.lent.bytes()) {
-        Some(shortfall) => sentences::write(out, place, &shortfall),
+        Some(shortfall) => sentences::write(out, bar.place().unwrap_or(0), &shortfall),
         None => Ok(()),
     }
 }
