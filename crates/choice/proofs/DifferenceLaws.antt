@@ -1,9 +1,11 @@
 -- The first criterion on which two candidates differ, and that the first difference decides.
-use mathlib.Core.Path.{◌≡◌, refl, ap}
-use Prim.Native.Nat.{ℕ, ◌-◌, ◌/◌, ◌%◌}
+use mathlib.Core.Path.{◌≡◌, refl, sym, ap, ◌∙◌}
+use Prim.Native.Nat.{ℕ, zero, suc, ◌-◌, ◌/◌, ◌%◌}
 use native.Mathlib.Omega.{arith}
-use mathlib.Core.Bool.{Bool, true, false}
+use mathlib.Core.Bool.{Bool, true, false, cond, not, beq}
 use mathlib.Core.List.{List, [], ◌∷◌}
+use borrow.Author.Rules.{rules}
+use mir.Val.{bool_byte}
 use lib.Dec.{eqb}
 use borrow.Author.Tests.{eq-eqb, ne_eqb, eqb-true, eqb-false}
 use Rattle.model.specs.Number.{Quantity}
@@ -69,6 +71,14 @@ module _ (q : Quantity) (p : ℕ) (s : Offer) (b : ℕ) (r : Offer) where
   unfolding difference_of
   differ_current e f h = rw (level_rank e f, first_differ _ _ _ _ h)
 
+  -- the same by who is the current parent
+  pub differ_flags : (x y : Bool) → s.ahead ≡ r.ahead → s.rank.0 ≡ r.rank.0 → cond x 0 1 ≡ not_current q p → cond y 0 1 ≡ not_current q b → not (beq x y) ≡ true
+      → differ 5 (bool_byte x) (bool_byte y) ≡ difference_of q p s b r
+  differ_flags true false e f m n h = rw (← m, ← n) at (differ_current e f (λ z. let w : ◌≡◌ {A = ℕ} 0 1 = m ∙ z ∙ sym n in omega arith))
+  differ_flags false true e f m n h = rw (← m, ← n) at (differ_current e f (λ z. let w : ◌≡◌ {A = ℕ} 1 0 = m ∙ z ∙ sym n in omega arith))
+  differ_flags true true e f m n h = search rules
+  differ_flags false false e f m n h = search rules
+
   pub differ_position : s.ahead ≡ r.ahead → s.rank.0 ≡ r.rank.0 → not_current q p ≡ not_current q b → (p ≡ b → ⊥) → differ 6 p b ≡ difference_of q p s b r
   unfolding difference_of
   differ_position e f g h = rw (level_rank e f, first_same _ _ _ _ g, first_differ _ _ _ _ h)
@@ -76,3 +86,24 @@ module _ (q : Quantity) (p : ℕ) (s : Offer) (b : ℕ) (r : Offer) where
   pub differ_nowhere : s.ahead ≡ r.ahead → s.rank.0 ≡ r.rank.0 → not_current q p ≡ not_current q b → p ≡ b → differ 0 0 0 ≡ difference_of q p s b r
   unfolding difference_of first_difference
   differ_nowhere e f g h = rw (level_rank e f, first_same _ _ _ _ g, first_same _ _ _ _ h)
+
+-- lists that differ nowhere
+tails : (x y : ℕ) (xs ys : List ℕ) → first_difference (x ∷ xs) (y ∷ ys) ≡ 0 → (x ≡ y) × (first_difference xs ys ≡ 0)
+unfolding first_difference
+tails x y xs ys e = go (eqb x y) refl e
+  where
+    go : (b : Bool) → eqb x y ≡ b → cond b (behind (first_difference xs ys)) 1 ≡ 0 → (x ≡ y) × (first_difference xs ys ≡ 0)
+    go true q z = (eqb-true x y q, none (first_difference xs ys) z)
+      where
+        none : (n : ℕ) → behind n ≡ 0 → n ≡ 0
+        none zero z = refl
+        none (suc n) z = absurd (omega arith)
+    go false q z = absurd (omega arith)
+
+-- candidates that differ nowhere have one position
+pub same_position : (q : Quantity) (p : ℕ) (s : Offer) (b : ℕ) (r : Offer) → (difference_of q p s b r).criterion ≡ 0 → p ≡ b
+unfolding difference_of
+same_position q p s b r e =
+    (tails _ _ _ _ (tails _ _ _ _ (tails _ _ _ _ (tails _ _ _ _ (tails _ _ _ _ (tails _ _ _ _ e).1).1).1).1).1).0
+
+pub ruleset differs = (differ_ahead, differ_rank, differ_current, differ_position, differ_nowhere)

@@ -5,3 +5,4 @@ pub mod ReturnLaws
 pub mod Demand3
 pub mod Chain
 pub mod DifferenceLaws
+pub mod PreferenceLaws

@@ -6,7 +6,7 @@ use native.Mathlib.Omega.{arith}
 use native.Mathlib.Numerals.{add-one}
 use mathlib.Core.List.{List, [], ◌∷◌, ◌++◌, map, map-append}
 use lib.ListN.{length, get_or, set, take, replicate, length-map}
-use lib.Seq.{take-suc, length-take-le}
+use lib.Seq.{take-suc, length-take-le, take_all}
 use lib.Bits.{bit_or, or_shifted_r}
 use Rattle.model.specs.declared.Own.{Own}
 use Rattle.model.specs.declared.Candidate.{Candidate}
@@ -15,9 +15,14 @@ use Rattle.model.specs.Verdict.{Verdict}
 use Rattle.model.specs.Verdict.{Unbarred, Barred}
 use Rattle.model.specs.Choice.{Choice}
 use Rattle.model.specs.Choice.{Nobody}
+use Rattle.model.specs.declared.Answer.{Answer}
+use Rattle.std.specs.Prelude.{Option, Some, None, unwrap_or}
+use Rattle.model.specs.declared.verdicts.Bar.{Bar}
+use Rattle.model.specs.Bars.{place_told, place_or_none, bar_place}
 use Rattle.model.specs.Reading.{no_place}
 use Rattle.model.specs.Verdict.{verdict, number_of, place_of}
 use Rattle.model.specs.Choice.{current_of, after_verdict, choose_from, unbarred_bit, bits_of, sixteen, verdicts, choice_of}
+use Rattle.choice.specs.Answered.{refused_answer, judged_answer}
 use Rattle.model.proofs.ChoiceLaws.{bits_below}
 use Rattle.model.proofs.ChoosingLaws.{choose_snoc, bits_snoc, sixteen_snoc, sixteen_same}
 
@@ -59,7 +64,7 @@ module _ (own : Own) (lent : List ℕ) (judged : List Candidate) (c : Candidate)
 
 -- one candidate more
 gathered_more : (own : Own) (lent : List ℕ) (cs : List Candidate) (i : ℕ) (d : Candidate) {numbers places : List ℕ} {bits : ℕ} {best b : Choice} {v : Verdict} {n p w : ℕ}
-    → length cs ≡ 16 → i < 16 → Gathered own lent (take i cs) numbers places bits best → v ≡ verdict own lent (get_or cs i d)
+    → length cs ≤ 16 → i < length cs → Gathered own lent (take i cs) numbers places bits best → v ≡ verdict own lent (get_or cs i d)
     → n ≡ number_of v → p ≡ place_of v → w ≡ unbarred_bit v * 2 ^ i → b ≡ after_verdict (current_of own) best i v
     → Gathered own lent (take (i + 1) cs) (set numbers i n) (set places i p) (bits + w) b
 gathered_more own lent cs i d s h g ev en ep ew eb =
@@ -84,37 +89,50 @@ gathered_place {own} {lent} {judged} g h =
     let l : length ns ≡ length judged = length-map (verdicts own judged lent) place_of ∙ length-map judged (verdict own lent) in
     rw (g.placed, ← l) (sixteen_same no_place ns (omega arith))
 
--- the pass before a position: the positions stand in the array, and those before it are gathered
-pub record Pass (own : Own) (lent : List ℕ) (cs : List Candidate) (count i : ℕ) (numbers places : List ℕ) (bits : ℕ) (best : Choice) : Type 0 where
-  pub array : length cs ≡ 16
-  pub few : count ≤ 16
-  pub reached : i ≤ count
-  pub gathered : Gathered own lent (take i cs) numbers places bits best
+-- the place of a bar, as a number
+pub told_place : (b : Bar) → unwrap_or (place_told b) no_place ≡ bar_place b
+told_place b = go (place_told b)
+  where
+    go : (p : Option ℕ) → unwrap_or p no_place ≡ place_or_none p
+    go None = refl
+    go (Some p) = refl
 
-module _ {own : Own} {lent : List ℕ} {cs : List Candidate} {count i : ℕ} (d : Candidate) {numbers places : List ℕ} {bits : ℕ} {best : Choice} {v : Verdict}
-    (pass : Pass own lent cs count i numbers places bits best) (h : i < count) (judged : v ≡ verdict own lent (get_or cs i d)) where
-  pass_more : Pass own lent cs count (i + 1) (set numbers i (number_of v)) (set places i (place_of v)) (bits + unbarred_bit v * 2 ^ i) (after_verdict (current_of own) best i v)
-  pass_more = record {
-    array = pass.array;
-    few = pass.few;
-    reached = omega arith;
-    gathered = gathered_more own lent cs i d pass.array (omega arith) pass.gathered judged refl refl refl refl;
-  }
+-- the pass over sixteen candidates at most, before a position: those before it are gathered, and nothing else is answered yet
+pub record Pass (own : Own) (lent : List ℕ) (cs : List Candidate) (i : ℕ) (answer : Answer) (best : Choice) : Type 0 where
+  pub few : length cs ≤ 16
+  pub fresh : answer ≡ judged_answer answer.verdicts answer.places answer.bits
+  pub gathered : Gathered own lent (take i cs) answer.verdicts answer.places answer.bits best
+
+pub pass_first : (own : Own) (lent : List ℕ) (cs : List Candidate) {answer : Answer} → length cs ≤ 16 → answer ≡ refused_answer 0 → Pass own lent cs 0 answer Nobody
+pass_first own lent cs h e = rw e (record { few = h; fresh = refl; gathered = gathered_none own lent cs })
+
+module _ {own : Own} {lent : List ℕ} {cs : List Candidate} {i : ℕ} (d : Candidate) {answer : Answer} {best : Choice} {v : Verdict}
+    (pass : Pass own lent cs i answer best) (h : i < length cs) (judged : v ≡ verdict own lent (get_or cs i d)) where
+  more : Gathered own lent (take (i + 1) cs) (set answer.verdicts i (number_of v)) (set answer.places i (place_of v)) (answer.bits + unbarred_bit v * 2 ^ i) (after_verdict (current_of own) best i v)
+  more = gathered_more own lent cs i d pass.few h pass.gathered judged refl refl refl refl
 
   -- a candidate that is barred
-  pub pass_barred : {n p : ℕ} → v ≡ Barred n p → Pass own lent cs count (i + 1) (set numbers i n) (set places i p) bits best
-  pass_barred e = rw (e, zero-mul (2 ^ i), add-zero bits) at pass_more
+  pub pass_barred : {n p : ℕ} → v ≡ Barred n p → Pass own lent cs (i + 1) (record answer { verdicts = set answer.verdicts i n; places = set answer.places i p }) best
+  pass_barred {n} {p} e = record {
+    few = pass.few;
+    fresh = ap {A = Answer} {B = Answer} (λ a. record a { verdicts = set answer.verdicts i n; places = set answer.places i p }) pass.fresh;
+    gathered = rw (e, zero-mul (2 ^ i), add-zero answer.bits) at more;
+  }
 
   -- one that is not: its place is none already
-  pub pass_unbarred : {r : Offer} {w : ℕ} {b : Choice} → v ≡ Unbarred r → w ≡ 2 ^ i → b ≡ after_verdict (current_of own) best i (Unbarred r)
-      → Pass own lent cs count (i + 1) (set numbers i 10) places (bit_or bits w) b
-  pass_unbarred e ew eb =
-      let l : length (take i cs) ≡ i = length-take-le i cs (omega (arith, pass.array, pass.few)) in
-      let o : bit_or bits (2 ^ i) ≡ bits + 2 ^ i = rw l at (gathered_or pass.gathered) in
-      let s : set places i no_place ≡ places = rw l at (gathered_place pass.gathered (omega (arith, l, pass.few))) in
-      rw (ew, eb, o) (rw (e, one-mul (2 ^ i), s) at pass_more)
+  pub pass_unbarred : {r : Offer} {b : Choice} → v ≡ Unbarred r → b ≡ after_verdict (current_of own) best i (Unbarred r)
+      → Pass own lent cs (i + 1) (record answer { verdicts = set answer.verdicts i 10; bits = bit_or answer.bits (2 ^ i) }) b
+  pass_unbarred e eb =
+      let l : length (take i cs) ≡ i = length-take-le i cs (omega arith) in
+      let o : bit_or answer.bits (2 ^ i) ≡ answer.bits + 2 ^ i = rw l at (gathered_or pass.gathered) in
+      let s : set answer.places i no_place ≡ answer.places = rw l at (gathered_place pass.gathered (omega (arith, l, pass.few))) in
+      record {
+        few = pass.few;
+        fresh = ap {A = Answer} {B = Answer} (λ a. record a { verdicts = set answer.verdicts i 10; bits = bit_or answer.bits (2 ^ i) }) pass.fresh;
+        gathered = rw (eb, o) (rw (e, one-mul (2 ^ i), s) at more);
+      }
 
 -- the pass is over
-pub pass_end : {own : Own} {lent : List ℕ} {cs : List Candidate} {count i : ℕ} {numbers places : List ℕ} {bits : ℕ} {best : Choice} → Pass own lent cs count i numbers places bits best
-    → count ≤ i → Gathered own lent (take count cs) numbers places bits best
-pass_end {count = count} {i = i} pass h = let e : i ≡ count = omega (arith, pass.reached) in rw e at pass.gathered
+pub pass_end : {own : Own} {lent : List ℕ} {cs : List Candidate} {i : ℕ} {answer : Answer} {best : Choice} → Pass own lent cs i answer best
+    → length cs ≤ i → Gathered own lent cs answer.verdicts answer.places answer.bits best
+pass_end {cs = cs} {i = i} pass h = rw (take_all i cs h) at pass.gathered

@@ -4,7 +4,7 @@ use Rattle.std.specs.Int.Count.{ones}
 use Rattle.model.specs.declared.Rank.{Rank}
 use Rattle.model.specs.declared.Answer.{Answer}
 use Rattle.model.specs.Rank.{infinite}
-use Rattle.model.specs.Choice.{refused_by}
+use Rattle.model.specs.Choice.{no_parent, refused_by}
 use Rattle.hop.specs.Sent.{Sent}
 
 -- the answer of a refused call
@@ -14,6 +14,20 @@ refused_answer n = (refused_by n []).answer
 -- no rank
 abbrev pub no_rank : Rank
 no_rank = record { 0 = infinite }
+
+-- the answer before the candidates are judged, and of those judged so far
+abbrev pub judged_answer : (verdicts places : List ℕ) → (bits : ℕ) → Answer
+judged_answer vs ps b = record {
+  refusal = 0;
+  parent = no_parent;
+  rank = no_rank;
+  verdicts = vs;
+  places = ps;
+  bits = b;
+  count = 0;
+  leaf = 0;
+  size = 0;
+}
 
 -- nothing is sent on, and no leaf answer is given
 abbrev pub nothing : Sent

@@ -1,3 +1,4 @@
+pub mod Refusal
 pub mod Given
 pub mod Answered
 pub mod Demand3

@@ -1,9 +1,14 @@
 // The answer of a call.
 ghost use Rattle.std.specs.Prelude.{◌≡◌, ◌^◌, ◌<◌};
-ghost use Rattle.model.specs.Choice.{no_parent};
-ghost use Rattle.choice.specs.Answered.{refused_answer, no_rank, nothing, answer_with};
+ghost use Rattle.std.specs.Int.Count.{ones};
+ghost use Rattle.choice.specs.Answered.{refused_answer};
+ghost use Rattle.choice.specs.Refusal.{number_of};
 
+use crate::refusals::Refusal;
 use model::{Answer, Rank};
+
+// The place of a candidate that no object bars.
+pub(crate) const NO_PLACE: u16 = 65535;
 
 // The bit of the candidate at a position, in its place.
 pub(crate) fn bit_at(position: usize) -> u16
@@ -13,16 +18,23 @@ pub(crate) fn bit_at(position: usize) -> u16
     1 << position
 }
 
-// The answer of a refused call.
-pub(crate) fn refused(number: u8) -> Answer
-    ensures { result ≡ refused_answer number }
+// How many bits are set.
+pub(crate) fn count_of(bits: u16) -> u8
+    ensures { result ≡ ones bits }
+{
+    u16::count_ones(bits) as u8
+}
+
+// An answer that names no parent, before any candidate is judged.
+pub(crate) fn blank() -> Answer
+    ensures { result ≡ refused_answer 0 }
 {
     Answer {
-        refusal: number,
+        refusal: 0,
         parent: 255,
         rank: Rank(65535),
         verdicts: [0; 16],
-        places: [65535; 16],
+        places: [NO_PLACE; 16],
         bits: 0,
         count: 0,
         leaf: 0,
@@ -30,34 +42,12 @@ pub(crate) fn refused(number: u8) -> Answer
     }
 }
 
-// The answer of a call that is not refused.
-pub(crate) fn answered(
-    parent: u8,
-    rank: Rank,
-    verdicts: [u8; 16],
-    places: [u16; 16],
-    bits: u16,
-    leaf: u8,
-    size: u16,
-) -> Answer
-    ensures { result ≡ answer_with parent rank verdicts places bits (record { leaf = leaf; size = size }) }
+// The answer of a refused call.
+pub(crate) fn refused(refusal: Refusal) -> Answer
+    ensures { result ≡ refused_answer (number_of refusal) }
 {
     Answer {
-        refusal: 0,
-        parent,
-        rank,
-        verdicts,
-        places,
-        bits,
-        count: u16::count_ones(bits) as u8,
-        leaf,
-        size,
+        refusal: refusal.number(),
+        ..blank()
     }
-}
-
-// The answer of a call that finds no parent.
-pub(crate) fn without_parent(verdicts: [u8; 16], places: [u16; 16], bits: u16) -> Answer
-    ensures { result ≡ answer_with no_parent no_rank verdicts places bits nothing }
-{
-    answered(255, Rank(65535), verdicts, places, bits, 0, 0)
 }

@@ -1,35 +1,42 @@
 // On which criterion two unbarred candidates differ first.
 ghost use Rattle.std.specs.Prelude.{◌≡◌};
 ghost use Rattle.model.specs.Choice.{current_of};
-ghost use Rattle.choice.specs.Difference.{differ, ahead_difference, difference_of};
+ghost use Rattle.choice.specs.Difference.{number_of, told, told_of, ahead_difference, difference_of};
 
 use crate::preference;
-use model::{Offer, Own};
+use model::{Own, Parent};
 
-// The criteria by number.
-pub const ORDER: u8 = 1;
+// What unbarred candidates are compared by, in this order; edition 1 compares by the last three alone.
+#[derive(Clone, Copy, PartialEq, Eq, PartialOrd, Ord)]
+pub enum Criterion {
+    Order = 1,
+    Grounded = 2,
+    Preference = 3,
+    Rank = 4,
+    Current = 5,
+    Position = 6,
+}
 
-pub const GROUNDED: u8 = 2;
+impl Criterion {
+    // The number by which C knows it.
+    pub fn number(self) -> u8
+        ensures { result ≡ number_of self }
+    {
+        self as u8
+    }
+}
 
-pub const PREFERENCE: u8 = 3;
-
-pub const RANK: u8 = 4;
-
-pub const CURRENT: u8 = 5;
-
-pub const POSITION: u8 = 6;
-
-// The number of a criterion, 0 for none, and what one candidate and another have there, as their fields say it: of yes and no, yes is 1.
-#[derive(Clone, Copy)]
+// A criterion, and what one candidate and another have there, as their fields say it: of yes and no, yes is 1.
+#[derive(Clone, Copy, PartialEq, Eq)]
 pub struct Difference {
-    pub criterion: u8,
+    pub criterion: Criterion,
     pub value: u16,
     pub against: u16,
 }
 
 // Two small numbers on a criterion.
-fn on(criterion: u8, value: u8, against: u8) -> Difference
-    ensures { result ≡ differ criterion value against }
+fn on(criterion: Criterion, value: u8, against: u8) -> Difference
+    ensures { result ≡ record { criterion = criterion; value = value; against = against } }
 {
     Difference {
         criterion,
@@ -39,39 +46,41 @@ fn on(criterion: u8, value: u8, against: u8) -> Difference
 }
 
 // Of two numbers that differ, by their digits: what edition 2 compares before the rank.
+#[tactic(auto, unfolding(crate::specs::Difference::ahead_difference))]
 fn ahead_difference(value: u8, against: u8) -> Difference
-    ensures { result ≡ ahead_difference value against }
+    ensures { told result ≡ ahead_difference value against }
 {
     if value / 16 != against / 16 {
-        return on(ORDER, value / 16, against / 16);
+        return on(Criterion::Order, value / 16, against / 16);
     }
     if value / 8 % 2 != against / 8 % 2 {
-        return on(GROUNDED, 1 - value / 8 % 2, 1 - against / 8 % 2);
+        return on(Criterion::Grounded, 1 - value / 8 % 2, 1 - against / 8 % 2);
     }
-    on(PREFERENCE, 7 - value % 8, 7 - against % 8)
+    on(Criterion::Preference, 7 - value % 8, 7 - against % 8)
 }
 
 // The first criterion on which a candidate differs from another. It names no winner: `better` alone does.
-pub fn first_difference(own: Own, position: u8, offer: Offer, other: u8, than: Offer) -> Difference
-    ensures { result ≡ difference_of (current_of own) position offer other than }
+#[tactic(auto, using(crate::proofs::DifferenceLaws::differs))]
+pub fn first_difference(own: Own, one: Parent, other: Parent) -> Option<Difference>
+    ensures { told_of result ≡ difference_of (current_of own) one.position one.offer other.position other.offer }
 {
-    if offer.ahead != than.ahead {
-        return ahead_difference(offer.ahead, than.ahead);
+    if one.offer.ahead != other.offer.ahead {
+        return Some(ahead_difference(one.offer.ahead, other.offer.ahead));
     }
-    if offer.rank.0 != than.rank.0 {
-        return Difference {
-            criterion: RANK,
-            value: offer.rank.0,
-            against: than.rank.0,
-        };
+    if one.offer.rank != other.offer.rank {
+        return Some(Difference {
+            criterion: Criterion::Rank,
+            value: one.offer.rank.0,
+            against: other.offer.rank.0,
+        });
     }
-    let a = preference::not_current(own, position);
-    let b = preference::not_current(own, other);
-    if a != b {
-        return on(CURRENT, 1 - a, 1 - b);
+    let current = preference::is_current(own, one.position);
+    let other_current = preference::is_current(own, other.position);
+    if current != other_current {
+        return Some(on(Criterion::Current, current as u8, other_current as u8));
     }
-    if position != other {
-        return on(POSITION, position, other);
+    if one.position != other.position {
+        return Some(on(Criterion::Position, one.position, other.position));
     }
-    on(0, 0, 0)
+    None
 }

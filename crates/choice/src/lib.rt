@@ -6,74 +6,61 @@ ghost use Rattle.model.specs.Choice.{call};
 ghost use Rattle.choice.specs.Given.{given};
 ghost use Rattle.choice.specs.Demand3.{Returned};
 
-use model::{Answer, Candidate, Choice, Own, Verdict};
+use model::{Answer, Candidate, Own, Parent, Verdict};
 
 mod answers;
 mod differences;
 mod preference;
 mod refusals;
 
-pub use differences::{
-    CURRENT, Difference, GROUNDED, ORDER, POSITION, PREFERENCE, RANK, first_difference,
-};
+pub use differences::{Criterion, Difference, first_difference};
 pub use preference::better;
-pub use refusals::refusal_of;
+pub use refusals::{Refusal, check_call};
 
 // The whole call: refusals, a verdict on each candidate, the preferred parent, and the containers for the next hop in the output.
 pub fn call(
     own: Own,
-    candidates: [Candidate; 16],
+    candidates: &[Candidate; 16],
     count: usize,
     lent: &[u8],
     out: &mut [u8],
 ) -> Answer
-    ensures value { result ≡ (call own (given candidates count) lent.now out.old).answer }
-    ensures written { out.new ≡ (call own (given candidates count) lent.now out.old).output }
-    ensures returned { Returned own candidates count lent.now out.old (record { answer = result; output = out.new }) }
+    ensures value { result ≡ (call own (given candidates.now count) lent.now out.old).answer }
+    ensures written { out.new ≡ (call own (given candidates.now count) lent.now out.old).output }
+    ensures returned { Returned own candidates.now count lent.now out.old (record { answer = result; output = out.new }) }
 {
-    let refusal = refusals::refusal_of(own, count, out.len());
-    if refusal != 0 {
+    if let Err(refusal) = refusals::check_call(own, count, out.len()) {
         return answers::refused(refusal);
     }
-    let mut numbers = [0u8; 16];
-    let mut places = [65535u16; 16];
-    let mut bits: u16 = 0;
-    let mut best = Choice::Nobody;
-    let mut i: usize = 0;
-    while i < count {
-        match verdict::judge(own, candidates[i], lent) {
-            Verdict::Barred { number, place } => {
-                numbers[i] = number;
-                places[i] = place;
-                i += 1;
+    let mut answer = answers::blank();
+    let mut best = None;
+    for (i, candidate) in candidates[..count].iter().enumerate() {
+        match verdict::judge(&own, candidate, lent) {
+            Verdict::Barred(bar) => {
+                answer.verdicts[i] = bar.number();
+                answer.places[i] = bar.place().unwrap_or(answers::NO_PLACE);
             }
             Verdict::Unbarred(offer) => {
-                numbers[i] = 10;
-                bits = bits | answers::bit_at(i);
-                best = preference::better(own, best, i as u8, offer);
-                i += 1;
+                answer.verdicts[i] = 10;
+                answer.bits |= answers::bit_at(i);
+                let unbarred = Parent {
+                    position: i as u8,
+                    offer,
+                };
+                best = Some(preference::better(own, best, unbarred));
             }
         }
     }
-    match best {
-        Choice::Nobody => answers::without_parent(numbers, places, bits),
-        Choice::Parent { position, offer } => {
-            let at = position as usize;
-            let c = candidates[at];
-            let start = c.start;
-            let end = start + c.size;
-            match hop::send(own, c.neighbour, &lent[start..end], out) {
-                Ok(size) => answers::answered(position, offer.rank, numbers, places, bits, 0, size),
-                Err(leaf) => answers::answered(
-                    position,
-                    offer.rank,
-                    numbers,
-                    places,
-                    bits,
-                    leaf.number(),
-                    0,
-                ),
-            }
+    answer.count = answers::count_of(answer.bits);
+    if let Some(parent) = best {
+        let chosen = candidates[parent.position as usize];
+        let end = chosen.start + chosen.size;
+        answer.parent = parent.position;
+        answer.rank = parent.offer.rank;
+        match hop::send(own, chosen.neighbour, &lent[chosen.start..end], out) {
+            Ok(size) => answer.size = size,
+            Err(leaf) => answer.leaf = leaf.number(),
         }
     }
+    answer
 }

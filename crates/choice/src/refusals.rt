@@ -1,10 +1,32 @@
 // Whole-call refusals.
 ghost use Rattle.std.specs.Prelude.{◌≡◌};
 ghost use Rattle.model.specs.Choice.{bad_own, current_past, bad_edition, refusal};
+ghost use Rattle.choice.specs.Refusal.{number_of, refused_as};
 
 use model::Own;
 
+// Why a call is refused: MinHopRankIncrease is 0 or the own type unknown; more than 16 candidates; a current position past the count; an
+// output of fewer than 2,056 bytes; an edition other than 1 and 2.
+#[derive(Clone, Copy, PartialEq, Eq)]
+pub enum Refusal {
+    Own = 1,
+    Count = 2,
+    Current = 3,
+    Output = 4,
+    Edition = 5,
+}
+
+impl Refusal {
+    // The number by which C knows it.
+    pub fn number(self) -> u8
+        ensures { result ≡ number_of self }
+    {
+        self as u8
+    }
+}
+
 // Refusal 1.
+#[tactic(auto, unfolding(model::specs::Choice::bad_own))]
 fn is_bad(own: Own) -> bool
     ensures { result ≡ bad_own own }
 {
@@ -25,24 +47,25 @@ fn is_bad_edition(own: Own) -> bool
     !((own.edition == 1) | (own.edition == 2))
 }
 
-// The number of the first refusal that holds; 0 for none.
-pub fn refusal_of(own: Own, count: usize, room: usize) -> u8
-    ensures { result ≡ refusal own count room }
+// The first refusal that holds.
+#[tactic(auto, unfolding(model::specs::Choice::refusal))]
+pub fn check_call(own: Own, count: usize, room: usize) -> Result<(), Refusal>
+    ensures { refused_as result ≡ refusal own count room }
 {
     if is_bad(own) {
-        return 1;
+        return Err(Refusal::Own);
     }
     if 16 < count {
-        return 2;
+        return Err(Refusal::Count);
     }
     if is_past(own, count) {
-        return 3;
+        return Err(Refusal::Current);
     }
     if room < 2056 {
-        return 4;
+        return Err(Refusal::Output);
     }
     if is_bad_edition(own) {
-        return 5;
+        return Err(Refusal::Edition);
     }
-    0
+    Ok(())
 }

@@ -9,7 +9,7 @@ pub(crate) fn write(out: &mut Output, calls: u64, told: &Call) -> io::Result<()>
     let mut sent = [0u8; own::MOST_ROOM];
     let answer = choice::call(
         told.own.own,
-        told.list(),
+        &told.list(),
         told.candidates.len(),
         told.lent.bytes(),
         &mut sent[..told.own.room],

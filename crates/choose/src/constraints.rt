@@ -1,6 +1,6 @@
 // The sentences for bar 19: what a constraint asks, and what the neighbour, the link or the path has.
 use crate::output::Output;
-use reason::Finding;
+use reason::{Shortfall, Way};
 use std::io::Write;
 use std::{fmt, io};
 
@@ -42,29 +42,29 @@ impl fmt::Display for Transmissions {
 }
 
 // What the object of an index asks, and what was found.
-pub(crate) fn unmet(out: &mut Output, place: u16, f: &Finding) -> io::Result<()> {
+pub(crate) fn unmet(out: &mut Output, place: u16, f: &Shortfall) -> io::Result<()> {
     write!(out, ": object {place} asks for ")?;
     match f.way {
-        reason::AGGREGATOR => write!(out, "nodes that aggregate; this one does not"),
-        reason::OVERLOADED => write!(out, "nodes that are not overloaded; this one is"),
-        reason::OTHER_TYPE | reason::LITTLE_ENERGY | reason::UNKNOWN_ENERGY => wanted(out, f),
-        reason::BARRED_TYPE | reason::BARRED_ENERGY | reason::BARRED_UNKNOWN => unwanted(out, f),
-        reason::ETX | reason::PATH_ETX | reason::UNKNOWN_ETX => etx(out, f),
+        Way::Aggregator => write!(out, "nodes that aggregate; this one does not"),
+        Way::Overloaded => write!(out, "nodes that are not overloaded; this one is"),
+        Way::OtherType | Way::LittleEnergy | Way::UnknownEnergy => wanted(out, f),
+        Way::BarredType | Way::BarredEnergy | Way::BarredUnknown => unwanted(out, f),
+        Way::Etx | Way::PathEtx | Way::UnknownEtx => etx(out, f),
         _ => of_way(out, f),
     }
 }
 
 // A type, or an energy, that is asked for.
-fn wanted(out: &mut Output, f: &Finding) -> io::Result<()> {
-    let Finding {
+fn wanted(out: &mut Output, f: &Shortfall) -> io::Result<()> {
+    let Shortfall {
         which,
         asked,
         found,
         ..
     } = *f;
     match f.way {
-        reason::OTHER_TYPE => write!(out, "{}; this one is of type {found}", Nodes(asked)),
-        reason::LITTLE_ENERGY => write!(
+        Way::OtherType => write!(out, "{}; this one is of type {found}", Nodes(asked)),
+        Way::LittleEnergy => write!(
             out,
             "{} with more than {asked} % energy; this one has {found} %",
             Nodes(which)
@@ -78,16 +78,16 @@ fn wanted(out: &mut Output, f: &Finding) -> io::Result<()> {
 }
 
 // A type, or an energy, that is to be left out.
-fn unwanted(out: &mut Output, f: &Finding) -> io::Result<()> {
-    let Finding {
+fn unwanted(out: &mut Output, f: &Shortfall) -> io::Result<()> {
+    let Shortfall {
         which,
         asked,
         found,
         ..
     } = *f;
     match f.way {
-        reason::BARRED_TYPE => write!(out, "no {}; this one is of that type", Nodes(asked)),
-        reason::BARRED_ENERGY => write!(
+        Way::BarredType => write!(out, "no {}; this one is of that type", Nodes(asked)),
+        Way::BarredEnergy => write!(
             out,
             "no {} with less than {asked} % energy; this one has {found} %",
             Nodes(which)
@@ -101,25 +101,25 @@ fn unwanted(out: &mut Output, f: &Finding) -> io::Result<()> {
 }
 
 // ETX of the link or of the path.
-fn etx(out: &mut Output, f: &Finding) -> io::Result<()> {
+fn etx(out: &mut Output, f: &Shortfall) -> io::Result<()> {
     let found = Transmissions(f.found);
     write!(out, "ETX of at most {}; ", Transmissions(f.asked))?;
     match f.way {
-        reason::ETX => write!(out, "this link has {found}"),
-        reason::PATH_ETX => write!(out, "the path has {found}"),
+        Way::Etx => write!(out, "this link has {found}"),
+        Way::PathEtx => write!(out, "the path has {found}"),
         _ => write!(out, "that of this link is unknown"),
     }
 }
 
 // A limit on the path or the link: what is asked of it.
-fn limit(out: &mut Output, f: &Finding) -> io::Result<()> {
+fn limit(out: &mut Output, f: &Shortfall) -> io::Result<()> {
     let asked = f.asked;
     match f.way {
-        reason::HOPS | reason::UNKNOWN_HOPS => write!(out, "fewer than {asked} hops; "),
-        reason::THROUGHPUT | reason::UNKNOWN_THROUGHPUT => {
+        Way::Hops | Way::UnknownHops => write!(out, "fewer than {asked} hops; "),
+        Way::Throughput | Way::UnknownThroughput => {
             write!(out, "throughput of at least {asked} bytes per second; ")
         }
-        reason::LATENCY | reason::PATH_LATENCY | reason::UNKNOWN_LATENCY => {
+        Way::Latency | Way::PathLatency | Way::UnknownLatency => {
             write!(out, "latency of at most {asked} microseconds; ")
         }
         _ => write!(out, "link quality from 1 to {asked}; "),
@@ -127,27 +127,25 @@ fn limit(out: &mut Output, f: &Finding) -> io::Result<()> {
 }
 
 // What is asked of the path or of the link.
-fn of_way(out: &mut Output, f: &Finding) -> io::Result<()> {
-    let Finding { asked, found, .. } = *f;
+fn of_way(out: &mut Output, f: &Shortfall) -> io::Result<()> {
+    let Shortfall { asked, found, .. } = *f;
     match f.way {
-        reason::LACKS_COLOUR => {
-            write!(out, "links of colour {asked}; this link has colour {found}")
-        }
-        reason::HAS_COLOUR => {
+        Way::LacksColour => { write!(out, "links of colour {asked}; this link has colour {found}") }
+        Way::HasColour => {
             write!(
                 out,
                 "no links of colour {asked}; this link has colour {found}"
             )
         }
-        reason::HOPS | reason::PATH_LATENCY => {
+        Way::Hops | Way::PathLatency => {
             limit(out, f)?;
             write!(out, "the path has {found}")
         }
-        reason::UNKNOWN_HOPS => {
+        Way::UnknownHops => {
             limit(out, f)?;
             write!(out, "those of the path are unknown")
         }
-        reason::THROUGHPUT | reason::LATENCY | reason::QUALITY => {
+        Way::Throughput | Way::Latency | Way::Quality => {
             limit(out, f)?;
             write!(out, "this link has {found}")
         }

@@ -27,8 +27,7 @@ pub extern "C" fn gardhnosk_choose(
     ensures written { out.new ≡ (call own (given candidates.at count) lent.now out.old).output }
     ensures returned { Returned own candidates.at count lent.now out.old (record { answer = result; output = out.new }) }
 {
-    let at = candidates.at;
-    choice::call(own, at, count, lent, out)
+    choice::call(own, &candidates.at, count, lent, out)
 }
 
 // Takes the next part of a run into a lent buffer; answers the state for the part behind it.

@@ -20,8 +20,7 @@ pub extern "C" fn gardhnosk_why(
 ) -> Reason
     ensures { result ≡ reason_of (why own (given candidates.at count) lent.now position) }
 {
-    let at = candidates.at;
-    reason::explain(own, at, count, lent, position)
+    reason::explain(own, &candidates.at, count, lent, position)
 }
 
 // Tells what was asked of a candidate that is barred, and what was found.

@@ -1,5 +1,5 @@
 -- What was asked and found, by the number that bars.
-use mathlib.Core.Path.{◌≡◌}
+use mathlib.Core.Path.{◌≡◌, refl}
 use Prim.Native.Nat.{ℕ, ◌+◌, ◌-◌, ◌≤◌, ◌<◌}
 use native.Mathlib.Nat.{add-sub_cancel_left}
 use mathlib.Core.Bool.{false, ◌||◌}
@@ -9,12 +9,42 @@ use borrow.Author.Tests.{eq-eqb, ne_eqb, lt-ltb, le-ltb}
 use Rattle.model.specs.declared.Own.{Own}
 use Rattle.model.specs.declared.Candidate.{Candidate}
 use Rattle.model.specs.Verdict.{Barred}
+use native.Mathlib.Omega.{arith}
+use Rattle.model.specs.declared.verdicts.Bar.{Bar}
+use Rattle.model.specs.declared.verdicts.Bar.TheVariants as bar
+use Rattle.model.specs.declared.verdicts.ObjectBar.TheVariants as at
+use Rattle.model.specs.Bars.{bar_number}
 use Rattle.model.specs.Run.{option_cut, ninth_container}
 use Rattle.model.specs.Verdict.{bad_numbers, run_of, outside, verdict}
 use Rattle.model.proofs.BoolLaws.{neither}
 use Rattle.model.proofs.Bars.{bar_exact}
+use Rattle.std.specs.Prelude.{Result, Ok, Err, ⊤}
+use Rattle.std.specs.Result.{result_err}
+use Rattle.reason.specs.declared.findings.Shortfall.{Shortfall}
 use Rattle.reason.specs.declared.findings.Finding.{Finding}
+use Rattle.reason.specs.Told.{finding_in, finding_from}
 use Rattle.reason.specs.Finding.{range_finding, outside_finding, run_finding, bar_finding}
+
+-- what a check finds
+pub by_err : (r : Result ⊤ Shortfall) → finding_in (result_err r) ≡ finding_from r
+by_err (Ok u) = refl
+by_err (Err s) = refl
+
+-- another bar has another number
+pub other_number : (b : Bar) → (b ≡ bar.Numbers → ⊥) → bar_number b ≡ 11 → ⊥
+other_number bar.Numbers h e = h refl
+other_number bar.Outside h e = omega arith
+other_number bar.Frame h e = omega arith
+other_number bar.Overrun h e = omega arith
+other_number (bar.AtObject at.Body p) h e = omega arith
+other_number (bar.AtObject at.Repeat p) h e = omega arith
+other_number (bar.AtObject at.Recorded p) h e = omega arith
+other_number (bar.AtObject at.Unknown p) h e = omega arith
+other_number (bar.AtObject at.Unmet p) h e = omega arith
+other_number bar.Rank h e = omega arith
+other_number bar.Increase h e = omega arith
+other_number bar.Option h e = omega arith
+other_number bar.Containers h e = omega arith
 
 module _ (own : Own) (c : Candidate) (n p : ℕ) (lent : List ℕ) where
   pub found_range : n ≡ 11 → range_finding own c.neighbour ≡ bar_finding own c n p lent

@@ -26,8 +26,7 @@ use Rattle.model.proofs.RunReadings.{run_exact}
 use Rattle.model.proofs.RunLaws.{run_objects_lem}
 use Rattle.model.proofs.Bars.{verdict_exact, bar_exact}
 use Rattle.reason.specs.declared.findings.Finding.{Finding}
-use Rattle.reason.specs.declared.frames.Objects.TheVariants.{Short}
-use Rattle.reason.specs.Finding.{finding, nothing, site_range, word_range, range_finding, outside_finding, cut_option_from, cut_option_finding, containers_finding, told_from, objects_told, or_else, overrun_from, overrun_finding, run_finding, bar_finding, finding_of}
+use Rattle.reason.specs.Finding.{Short, finding, nothing, site_range, word_range, range_finding, outside_finding, cut_option_from, cut_option_finding, containers_finding, told_from, objects_told, or_else, overrun_from, overrun_finding, run_finding, bar_finding, finding_of}
 use Rattle.reason.specs.Breaks.{breaks, FindingsBreak, NothingElse, holds_of, FlagsHold}
 use Rattle.reason.proofs.UnmetLaws.{Right, unmet_right}
 

@@ -8,3 +8,4 @@ pub mod Criteria
 pub mod UnmetLaws
 pub mod BreakLaws
 pub mod Rows
+pub mod LimitLaws

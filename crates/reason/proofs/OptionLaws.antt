@@ -10,15 +10,16 @@ use lib.ListN.{length, take, drop, get_or, length-drop, drop_of_length-le}
 use lib.Seq.{drop-cons, drop-drop}
 use lib.Dec.{eqb}
 use borrow.Author.Tests.{le-leb, lt-leb, lt-ltb, le-ltb, eq-eqb, ne_eqb}
+use Rattle.std.specs.Prelude.{Result, Ok, Err}
 use Rattle.model.specs.Cut.{keep_if}
 use Rattle.model.specs.Run.{RplOption, leading, options_up_to, options, containers, options_in, containers_in}
 use Rattle.model.proofs.RunLaws.{options_pad, options_step}
 use Rattle.wire.proofs.RunWalkLaws.{option_by, containers_by}
 use Rattle.reason.specs.declared.findings.Finding.{Finding}
 use Rattle.reason.specs.declared.options.Piece.{Piece}
-use Rattle.reason.specs.declared.options.Piece.TheVariants.{Cut, Whole}
+use Rattle.reason.specs.declared.findings.Shortfall.{Shortfall}
 use Rattle.reason.specs.Finding.{finding, nothing, cut_option_from}
-use Rattle.reason.specs.Options.{cut_option_at, data_of, Passed, Stands}
+use Rattle.reason.specs.Options.{cut_option_at, data_of, Passed, CutAs, Stands}
 
 -- ---- the option at the head
 
@@ -118,10 +119,10 @@ module _ (run : List ℕ) (at : ℕ) (h : at < length run) where
         }
 
 -- what stands there, by what the step over it gives
-pub is_cut : (run : List ℕ) (at : ℕ) {r : Piece} {f : Finding} → Stands run at r → r ≡ Cut f → Stands run at (Cut f)
+pub is_cut : (run : List ℕ) (at : ℕ) {r : Result Piece Shortfall} {s : Shortfall} → Stands run at r → r ≡ Err s → CutAs run at s
 is_cut run at s e = rw e at s
 
-pub is_passed : (run : List ℕ) (at : ℕ) {r : Piece} {t end : ℕ} → Stands run at r → r ≡ Whole t end → Passed run at t end
+pub is_passed : (run : List ℕ) (at : ℕ) {r : Result Piece Shortfall} {p : Piece} → Stands run at r → r ≡ Ok p → Passed run at p.kind p.end
 is_passed run at s e = rw e at s
 
 -- ---- behind the last option

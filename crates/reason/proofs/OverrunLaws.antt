@@ -6,7 +6,7 @@ use native.Mathlib.Omega.{arith}
 use mathlib.Core.Bool.{Bool, true, false, cond, true≢false}
 use mathlib.Core.List.{List, [], ◌∷◌}
 use mathlib.Core.Option.{Option, none, some}
-use lib.ListN.{length, take, drop, get_or, length-take, length-drop, drop_of_length-le}
+use lib.ListN.{length, drop, get_or, length-take, length-drop, drop_of_length-le}
 use lib.Seq.{drop-drop}
 use lib.Dec.{ltb, eqb}
 use borrow.Author.Tests.{lt-ltb, le-ltb, eq-eqb, ne_eqb}
@@ -15,8 +15,7 @@ use Rattle.model.specs.Reading.{is_none}
 use Rattle.model.specs.Run.{RplOption, leading, options, containers, options_in, containers_in, option_cut}
 use Rattle.wire.proofs.StepLaws.{header_at_lem}
 use Rattle.reason.specs.declared.findings.Finding.{Finding}
-use Rattle.reason.specs.declared.frames.Objects.TheVariants.{Short, All}
-use Rattle.reason.specs.Finding.{finding, nothing, told_from, objects_told, overrun_from, overrun_finding}
+use Rattle.reason.specs.Finding.{Short, All, finding, nothing, told_from, objects_told, overrun_from, overrun_finding}
 use Rattle.reason.specs.Options.{data_of, Passed}
 use Rattle.reason.proofs.OptionLaws.{options_end}
 

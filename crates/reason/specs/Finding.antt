@@ -1,4 +1,4 @@
--- What was asked of a candidate that is barred by 11, 12, 14, 19, 22 or 23, and what was found, by the ways of src/findings.rt.
+-- What was asked of a candidate that is barred by 11, 12, 14, 19, 22 or 23, and what was found, by the ways of specs/Way.antt.
 use Rattle.std.specs.Prelude.{ℕ, zero, suc, ◌+◌, ◌-◌, ◌/◌, ◌%◌, cond, not, ◌&&◌, ◌||◌, List, [], ◌∷◌, length, drop, get_or, ltb, eqb}
 use Rattle.std.proofs.Math.Option.{Option, none, some}
 use Rattle.std.proofs.Math.ListN.{get_elem?}
@@ -18,8 +18,6 @@ use Rattle.model.specs.Constraint.{is_aggregator, summary, colour_in}
 use Rattle.model.specs.Verdict.{is_second, run_of, outside, verdict}
 use Rattle.wire.specs.Number.{number_in}
 use Rattle.reason.specs.declared.findings.Finding.{Finding}
-use Rattle.reason.specs.declared.frames.Objects.{Objects}
-use Rattle.reason.specs.declared.frames.Objects.TheVariants.{Short, All}
 
 -- a way and its numbers
 abbrev pub finding : (way which asked found : ℕ) → Finding
@@ -74,6 +72,11 @@ containers_finding bs = finding 39 0 8 (length (containers_in bs))
 
 -- ---- bar 14: the object that is cut short
 
+-- the objects of a container: one is cut short, as is told of it; or all are whole, with the index behind the last
+pub data Objects : Type 0 where
+  Short : Finding → Objects
+  All : (index : ℕ) → Objects
+
 -- in a container's data, from an object of an index on: a header of four bytes, or a body; else the index behind all. `limit` bounds their number
 unfoldable pub told_from : (limit : ℕ) → List ℕ → (index : ℕ) → Objects
 told_from zero bs i = All i
@@ -122,10 +125,6 @@ ne_finding c f limit =
 abbrev pub hops_finding : Quantity → (limit : ℕ) → Finding
 hops_finding (Some v) limit = finding 23 0 limit v
 hops_finding None limit = finding 24 0 limit 0
-
--- inside the crate: the same by one number, one more than the count, 0 for none
-unfoldable pub hops_told : (hops limit : ℕ) → Finding
-hops_told h limit = cond (eqb h 0) (finding 24 0 limit 0) (finding 23 0 limit (h - 1))
 
 -- throughput: the link's, known by flag 0x20
 unfoldable pub throughput_finding : Neighbour → (limit : ℕ) → Finding

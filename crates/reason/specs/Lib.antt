@@ -1,6 +1,9 @@
 pub mod Finding
+pub mod Way
+pub mod Told
 pub mod Options
 pub mod Why
+pub mod Standing
 pub mod Breaks
 pub mod TrueReason
 pub mod Rows

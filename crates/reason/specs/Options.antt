@@ -1,12 +1,13 @@
 -- Inside the crate: what stands at an index of a run.
-use Rattle.std.specs.Prelude.{◌≡◌, ℕ, ◌+◌, ◌-◌, ◌≤◌, ◌<◌, List, ◌∷◌, length, take, drop, eqb}
+use Rattle.std.specs.Prelude.{◌≡◌, ℕ, ◌+◌, ◌-◌, ◌≤◌, ◌<◌, List, ◌∷◌, length, take, drop, eqb, Result, Ok, Err}
 use Rattle.std.proofs.Math.Option.{none}
 use Rattle.model.specs.Cut.{keep_if}
 use Rattle.model.specs.Run.{RplOption, leading, options, containers}
 use Rattle.reason.specs.declared.findings.Finding.{Finding}
+use Rattle.reason.specs.declared.findings.Shortfall.{Shortfall}
 use Rattle.reason.specs.declared.options.Piece.{Piece}
-use Rattle.reason.specs.declared.options.Piece.TheVariants.{Cut, Whole}
 use Rattle.reason.specs.Finding.{cut_option_from}
+use Rattle.reason.specs.Told.{by_number}
 
 -- what is told of the option that is cut short, from an index on
 unfoldable pub cut_option_at : List ℕ → (at : ℕ) → Finding
@@ -26,7 +27,11 @@ pub record Passed (run : List ℕ) (at type end : ℕ) : Type 0 where
   pub stands : options (drop at run) ≡ leading passed (options (drop end run))
   pub holds : (os : List RplOption) → containers (passed ∷ os) ≡ keep_if (eqb type 2) (data_of run at end) (containers os)
 
--- an option that is cut short, as is told of it; or one that is whole
-abbrev pub Stands : List ℕ → (at : ℕ) → Piece → Type 0
-Stands run at (Cut f) = (options (drop at run) ≡ none) × (cut_option_at run at ≡ f)
-Stands run at (Whole t end) = Passed run at t end
+-- an option that is cut short, as is told of it
+abbrev pub CutAs : List ℕ → (at : ℕ) → Shortfall → Type 0
+CutAs run at s = (options (drop at run) ≡ none) × (cut_option_at run at ≡ by_number s)
+
+-- that; or one that is whole
+abbrev pub Stands : List ℕ → (at : ℕ) → Result Piece Shortfall → Type 0
+Stands run at (Err s) = CutAs run at s
+Stands run at (Ok p) = Passed run at p.kind p.end

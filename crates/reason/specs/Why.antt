@@ -14,8 +14,7 @@ use Rattle.model.specs.Number.{Case, ◌when◌, first_case}
 use Rattle.model.specs.Reading.{no_place}
 use Rattle.model.specs.Verdict.{verdict}
 use Rattle.model.specs.Choice.{bad_own, too_many, current_past, bad_edition, current_of, no_parent, choice_of}
-use Rattle.choice.specs.declared.differences.Difference.{Difference}
-use Rattle.choice.specs.Difference.{difference_of}
+use Rattle.choice.specs.Difference.{Differing, difference_of}
 use Rattle.reason.specs.declared.reasons.Reason.{Reason}
 
 -- the reason: the question is refused; the candidate is the parent; it is barred; or the parent is better on a criterion, with what the two have there
@@ -42,7 +41,7 @@ why_refusal own n p = first_case (why_cases own n p)
 -- ---- the reason
 
 -- beaten by the candidate at a position, on the first criterion on which they differ
-abbrev pub beaten_on : (parent : ℕ) → Difference → Why
+abbrev pub beaten_on : (parent : ℕ) → Differing → Why
 beaten_on b d = beaten b d.criterion d.value d.against
 
 -- an unbarred candidate beside the choice, which names a parent then

@@ -2,11 +2,13 @@
 #![tactic(auto)]
 
 ghost use Rattle.std.specs.Prelude.{◌≡◌, cond, eqb};
-ghost use Rattle.model.specs.Choice.{current_of, after_verdict};
+ghost use Rattle.model.specs.Choice.{current_of, choice_in, after_verdict};
+ghost use Rattle.model.specs.Verdict.{verdict_of};
 ghost use Rattle.choice.specs.Given.{given};
 ghost use Rattle.reason.specs.Why.{why_refusal, reason_of, why};
+ghost use Rattle.reason.specs.Standing.{refused_as, why_of};
 
-use model::{Candidate, Choice, Own, Verdict};
+use model::{Bar, Candidate, Own, Parent, Verdict};
 
 mod asked;
 mod bars;
@@ -17,43 +19,32 @@ mod options;
 mod ranges;
 mod reasons;
 
-pub use bars::examine;
-pub use findings::{
-    AGGREGATOR, BARRED_ENERGY, BARRED_TYPE, BARRED_UNKNOWN, BODY, COLOUR, CONTAINERS, ETX, Finding,
-    HAS_COLOUR, HEADER, HOPS, LACKS_COLOUR, LATENCY, LITTLE_ENERGY, LQL, NODE_TYPE, NOTHING,
-    OPTION, OPTION_DATA, ORDER, OTHER_TYPE, OUTSIDE, OVERLOADED, PATH_ETX, PATH_LATENCY,
-    PREFERENCE, QUALITY, RF, SP, SR, THROUGHPUT, UNKNOWN_ENERGY, UNKNOWN_ETX, UNKNOWN_HOPS,
-    UNKNOWN_LATENCY, UNKNOWN_QUALITY, UNKNOWN_THROUGHPUT,
-};
-pub use reasons::{BARRED, BEATEN, CHOSEN, REFUSED, Reason};
+pub use bars::{examine, shortfall};
+pub use findings::{Finding, Shortfall, Way};
+pub use reasons::{Kind, Reason, Refused, Standing};
 
 // An output that is long enough: a question lends none, so that it is never refused for a short one.
 const ROOM: usize = 2056;
 
 // The refusal of a question: that of the call but for its output, then a position that is not below the count.
-fn refusal_of(own: Own, count: usize, position: usize) -> u8
-    ensures { result ≡ why_refusal own count position }
+#[tactic(auto, using(crate::proofs::WhyLaws::questions))]
+fn check_question(own: Own, count: usize, position: usize) -> Result<(), Refused>
+    ensures { refused_as result ≡ why_refusal own count position }
 {
-    let number = choice::refusal_of(own, count, ROOM);
-    if number != 0 {
-        return number;
-    }
+    choice::check_call(own, count, ROOM)?;
     if count <= position {
-        return 6;
+        return Err(Refused::Position);
     }
-    0
+    Ok(())
 }
 
 // The best candidate so far, with the verdict on one more.
-fn after(own: Own, best: Choice, position: u8, verdict: Verdict) -> Choice
-    ensures { result ≡ after_verdict (current_of own) best position verdict }
+fn after(own: Own, best: Option<Parent>, position: u8, verdict: Verdict) -> Option<Parent>
+    ensures { choice_in result ≡ after_verdict (current_of own) (choice_in best) position (verdict_of verdict) }
 {
     match verdict {
-        Verdict::Unbarred(offer) => choice::better(own, best, position, offer),
-        Verdict::Barred {
-            number: _,
-            place: _,
-        } => best,
+        Verdict::Unbarred(offer) => Some(choice::better(own, best, Parent { position, offer })),
+        Verdict::Barred(_) => best,
     }
 }
 
@@ -67,31 +58,39 @@ fn kept(at: usize, position: usize, verdict: Verdict, before: Verdict) -> Verdic
     before
 }
 
-// Why the candidate at a position is the parent, or is not, in the call with the same candidates and bytes.
+// Where the candidate at a position stands in the call with the same candidates and bytes.
+pub fn ask(
+    own: Own,
+    candidates: &[Candidate; 16],
+    count: usize,
+    lent: &[u8],
+    position: usize,
+) -> Result<Standing, Refused>
+    ensures { why_of result ≡ why own (given candidates.now count) lent.now position }
+{
+    check_question(own, count, position)?;
+    let mut best = None;
+    let mut asked = Verdict::Barred(Bar::Frame);
+    for (i, candidate) in candidates[..count].iter().enumerate() {
+        let verdict = verdict::judge(&own, candidate, lent);
+        asked = kept(i, position, verdict, asked);
+        best = after(own, best, i as u8, verdict);
+    }
+    Ok(reasons::by_verdict(own, best, position as u8, asked))
+}
+
+// The same by number, as C receives it: why the candidate at a position is the parent, or is not.
 pub fn explain(
     own: Own,
-    candidates: [Candidate; 16],
+    candidates: &[Candidate; 16],
     count: usize,
     lent: &[u8],
     position: usize,
 ) -> Reason
-    ensures { result ≡ reason_of (why own (given candidates count) lent.now position) }
+    ensures { result ≡ reason_of (why own (given candidates.now count) lent.now position) }
 {
-    let refusal = refusal_of(own, count, position);
-    if refusal != 0 {
-        return reasons::refused(refusal);
+    match ask(own, candidates, count, lent, position) {
+        Ok(standing) => standing.into(),
+        Err(refused) => refused.into(),
     }
-    let mut best = Choice::Nobody;
-    let mut asked = Verdict::Barred {
-        number: 0,
-        place: 65535,
-    };
-    let mut i: usize = 0;
-    while i < count {
-        let verdict = verdict::judge(own, candidates[i], lent);
-        asked = kept(i, position, verdict, asked);
-        best = after(own, best, i as u8, verdict);
-        i += 1;
-    }
-    reasons::by_verdict(own, best, position as u8, asked)
 }

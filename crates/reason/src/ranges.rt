@@ -1,60 +1,41 @@
 // Bar 11: the first number that is out of range.
-ghost use Rattle.std.specs.Prelude.{◌≡◌};
-ghost use Rattle.reason.specs.Finding.{word_range, site_range, range_finding};
+ghost use Rattle.std.specs.Prelude.{◌≡◌, ◌||◌, ltb, is_err, Err, OnErr};
+ghost use Rattle.reason.specs.Finding.{range_finding};
+ghost use Rattle.reason.specs.Told.{finding_from};
 
-use crate::findings;
-use crate::findings::Finding;
+use crate::findings::{Shortfall, Way};
 use model::{Neighbour, Own};
 
-// What edition 2 alone reads.
-fn of_site(own: Own, neighbour: Neighbour) -> Finding
-    ensures { result ≡ site_range own neighbour }
+// A number is in its range.
+fn within(way: Way, least: u64, most: u64, found: u64) -> Result<(), Shortfall>
+    ensures short { is_err result ≡ (ltb found least || ltb most found) }
+    ensures told { OnErr result (result ≡ Err (record { way = way; which = least; asked = most; found = found })) }
 {
-    if own.edition != 2 {
-        return findings::nothing();
+    if (found < least) | (most < found) {
+        return Err(Shortfall {
+            way,
+            which: least,
+            asked: most,
+            found,
+        });
     }
-    if 7 < neighbour.order {
-        return findings::small(findings::ORDER, 0, 7, neighbour.order);
-    }
-    if 7 < neighbour.preference {
-        return findings::small(findings::PREFERENCE, 0, 7, neighbour.preference);
-    }
-    findings::nothing()
+    Ok(())
 }
 
-// The link's colour, which is no byte.
-fn of_word(own: Own, neighbour: Neighbour) -> Finding
-    ensures { result ≡ word_range own neighbour }
+// Sp, Rf, Sr, LQL, type, colour, and in edition 2 order and preference, are in range.
+#[tactic(auto, unfolding(crate::specs::Finding::range_finding, crate::specs::Finding::word_range, crate::specs::Finding::site_range))]
+pub(crate) fn check(own: Own, neighbour: Neighbour) -> Result<(), Shortfall>
+    ensures { finding_from result ≡ range_finding own neighbour }
 {
-    if 1023 < neighbour.colour {
-        return Finding {
-            way: findings::COLOUR,
-            which: 0,
-            asked: 1023,
-            found: neighbour.colour as u64,
-        };
+    within(Way::Sp, 1, 9, neighbour.sp as u64)?;
+    within(Way::Rf, 1, 4, neighbour.rf as u64)?;
+    within(Way::Sr, 0, 5, neighbour.sr as u64)?;
+    within(Way::Lql, 0, 7, neighbour.lql as u64)?;
+    within(Way::NodeType, 0, 3, neighbour.nodetype as u64)?;
+    within(Way::Colour, 0, 1023, neighbour.colour as u64)?;
+    if own.edition == 2 {
+        within(Way::Order, 0, 7, neighbour.order as u64)?;
+        within(Way::Preference, 0, 7, neighbour.preference as u64)?;
     }
-    of_site(own, neighbour)
-}
-
-// The first of Sp, Rf, Sr, LQL, type, colour, and in edition 2 order and preference, that is out of range.
-pub(crate) fn out_of_range(own: Own, neighbour: Neighbour) -> Finding
-    ensures { result ≡ range_finding own neighbour }
-{
-    if (neighbour.sp < 1) | (9 < neighbour.sp) {
-        return findings::small(findings::SP, 1, 9, neighbour.sp);
-    }
-    if (neighbour.rf < 1) | (4 < neighbour.rf) {
-        return findings::small(findings::RF, 1, 4, neighbour.rf);
-    }
-    if 5 < neighbour.sr {
-        return findings::small(findings::SR, 0, 5, neighbour.sr);
-    }
-    if 7 < neighbour.lql {
-        return findings::small(findings::LQL, 0, 7, neighbour.lql);
-    }
-    if 3 < neighbour.nodetype {
-        return findings::small(findings::NODE_TYPE, 0, 3, neighbour.nodetype);
-    }
-    of_word(own, neighbour)
+    Ok(())
 }

@@ -1,4 +1,4 @@
-// Runs `choice::call` and `reason::explain` on the cases of its input, one to a line, and writes a line for each.
+// Runs `choice::call` and `reason::ask` on the cases of its input, one to a line, and writes a line for each.
 // A case: NAME minhop maxincrease lowest nodetype flags energy edition current room count, then for each candidate (16 at most
 // stand on the line, whatever the count) rank sp rf sr nodetype flags energy lql etx latency throughput colour order preference
 // start size, then the bytes of the lent run. One space is between two words; numbers are decimal, bytes two hexadecimal digits.
@@ -30,10 +30,9 @@ const TURNS: u32 = 65536;
 // Calls on a case, and writes the answer and the reason at each candidate on its line and at the position behind them.
 fn run_case(out: &mut Stdout, given: &Case, lent: &[u8]) -> io::Result<()> {
     let mut sent = [0xEEu8; MOST_ROOM];
-    let candidates = given.candidates;
     let answer = choice::call(
         given.own,
-        candidates,
+        &given.candidates,
         given.count,
         lent,
         &mut sent[..given.room],
@@ -41,8 +40,8 @@ fn run_case(out: &mut Stdout, given: &Case, lent: &[u8]) -> io::Result<()> {
     say::answer(out, &answer, given.count, &sent)?;
     write!(out, " why")?;
     for position in 0..=given.shown() {
-        let why = reason::explain(given.own, candidates, given.count, lent, position);
-        say::reason(out, &why)?;
+        let why = reason::ask(given.own, &given.candidates, given.count, lent, position);
+        say::reason(out, why)?;
     }
     writeln!(out)
 }

@@ -1,6 +1,6 @@
 // Writing the answer of a case, and the reasons.
 use model::Answer;
-use reason::Reason;
+use reason::{Refused, Standing};
 use std::io;
 use std::io::{Stdout, Write};
 
@@ -65,18 +65,19 @@ fn output(out: &mut Stdout, sent: &[u8], size: usize) -> io::Result<()> {
 }
 
 // A reason, as one word.
-pub(crate) fn reason(out: &mut Stdout, why: &Reason) -> io::Result<()> {
-    let Reason {
-        parent,
-        criterion,
-        value,
-        against,
-        ..
-    } = *why;
-    match why.kind {
-        reason::REFUSED => write!(out, " refused-{}", why.refusal),
-        reason::CHOSEN => write!(out, " chosen"),
-        reason::BARRED => verdict(out, why.number, why.place),
-        _ => write!(out, " {parent}:{criterion}:{value}:{against}"),
+pub(crate) fn reason(out: &mut Stdout, why: Result<Standing, Refused>) -> io::Result<()> {
+    match why {
+        Err(refused) => write!(out, " refused-{}", refused.number()),
+        Ok(Standing::Chosen) => write!(out, " chosen"),
+        Ok(Standing::Barred { number, place }) => verdict(out, number, place),
+        Ok(
+            Standing::Beaten {
+                parent,
+                difference: on,
+            },
+        ) => {
+            let criterion = on.criterion.number();
+            write!(out, " {parent}:{criterion}:{}:{}", on.value, on.against)
+        }
     }
 }

@@ -1,6 +1,3 @@
-use Prim.Native.Nat.{◌+◌}
-use native.Mathlib.Omega.{arith}
-use borrow.Author.Rules.{rules}
 use Rattle.reason.proofs.OptionLaws.{at_pad, at_lone, at_over, at_whole}
 use Rattle.reason.proofs.options.option_at.Goals as goal
 

@@ -1,12 +1,9 @@
-use mathlib.Core.Path.{◌≡◌, refl, sym, ◌∙◌}
+use mathlib.Core.Path.{◌≡◌}
 use Prim.Native.Nat.{◌-◌}
-use native.Mathlib.Omega.{arith}
 use lib.ListN.{length}
-use borrow.Author.Rules.{rules}
 use Rattle.reason.specs.Finding.{cut_option_finding}
 use Rattle.reason.specs.Options.{cut_option_at}
-use Rattle.reason.proofs.OptionLaws.{is_cut, is_passed, cut_end}
-use Rattle.reason.proofs.options.cut_short.Given as goal
+use Rattle.reason.proofs.options.check.Given as goal
 
 abbrev pub invariant-loop-at : goal.invariant-loop-at
 invariant-loop-at l = cut_option_at l.run l.at ≡ cut_option_finding l.run
