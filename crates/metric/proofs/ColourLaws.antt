@@ -5,7 +5,7 @@ use native.Mathlib.Numerals.{add-one, add-two}
 use native.Mathlib.Omega.{arith}
 use mathlib.Core.Bool.{Bool, true, false, cond}
 use mathlib.Core.List.{List, [], ◌∷◌, ◌++◌}
-use lib.ListN.{length, get_or, drop, set, length-set, length-append, drop_of_length-le}
+use lib.ListN.{length, get_or, drop, set, length-append, drop_of_length-le}
 use lib.Seq.{drop-cons}
 use lib.Dec.{ltb, eqb}
 use borrow.Author.Tests.{ltb-true}
@@ -81,10 +81,6 @@ counts_lone v (x ∷ y ∷ t) h e = go (gains_in v x y) h (counts_lone v t)
         → cond b (x ∷ (y + 1) ∷ t) (x ∷ y ∷ count_colour v t) ≡ x ∷ y ∷ t
     go true h ih = absurd (omega arith)
     go false h ih = ap (λ l. x ∷ y ∷ l) (ih (omega arith) (omega arith))
-
--- how long they are then
-pub length_gained : (v : ℕ) (s : List ℕ) → place_of v s + 2 ≤ length s → length (count_colour v s) ≡ length s
-length_gained v s h = ap length (counts_at v s h) ∙ length-set s (place_of v s + 1) (get_or s (place_of v s + 1) 0 + 1)
 
 pub length_opened : (v : ℕ) (s : List ℕ) → length s < place_of v s + 2 → length s % 2 ≡ 0 → length (count_colour v s) ≡ length s + 2
 length_opened v s h e = ap length (counts_behind v s h e) ∙ length-append s (v / 4 ∷ (v % 4 * 64 + 1) ∷ [])

@@ -11,13 +11,16 @@ use borrow.Author.Tests.{eq-eqb, ne_eqb, eqb-true, eqb-false}
 use Rattle.model.specs.declared.Own.{Own}
 use Rattle.model.specs.declared.Neighbour.{Neighbour}
 use Rattle.model.specs.Number.{any_of, big_endian, number}
-use Rattle.model.specs.Object.{Kind, unknown, lql, colour, node, scalar, Role, constraint, recorded, aggregated, kind_of, role_of, is_recorded}
+use Rattle.model.specs.Object.{Kind, unknown, lql, colour, node, ne, scalar, Role, constraint, recorded, aggregated, kind_of, role_of, is_recorded}
 use Rattle.model.specs.Constraint.{energy_in}
 use Rattle.model.specs.Update.{local_value, value_or_0, on_field, combine, width_of, most_of, clear0, clear1, combine1, aggregated_body, constraint_body, sub_object, clear_each, own_energy, count_level, counted_body, count_colour, coloured_body, recorded_body, next_body}
 use Rattle.model.proofs.ShapeLaws.{length-on_two, length-clear_each, length-own_energy, length-clear_colour}
 use Rattle.metric.specs.Next.{link_of, counts_in}
 use Rattle.metric.specs.Colours.{gains_in, place_of}
-use Rattle.metric.proofs.KindLaws.{recorded_by_lem}
+use Rattle.wire.specs.declared.metric_type.MetricType.{MetricType}
+use Rattle.wire.specs.declared.metric_type.MetricType.TheVariants.{NodeEnergy, LinkQuality, LinkColour}
+use Rattle.wire.specs.MetricType.{kind_in}
+use Rattle.metric.proofs.KindLaws.{named, recorded_by_lem}
 
 -- ---- recorded metrics
 
@@ -52,10 +55,10 @@ length_big : (w v : ℕ) → length (big_endian w v) ≡ w
 length_big zero v = refl
 length_big (suc w) v = ap suc (length_big w v)
 
-pub grows_energy : (own : Own) (c : Neighbour) (t : ℕ) (b : List ℕ) → t ≡ 2 → length b + 2 ≡ length (recorded_body own c (kind_of t) b)
-unfolding kind_of recorded_body
-grows_energy own c t b e =
-    rw (e, length-append (clear_each b) (own_energy own.nodetype (energy_in own.flags own.energy)), length-clear_each b, length-own_energy own.nodetype (energy_in own.flags own.energy))
+pub grows_energy : (own : Own) (c : Neighbour) (k : Kind) (b : List ℕ) → node ne ≡ k → length b + 2 ≡ length (recorded_body own c k b)
+unfolding recorded_body
+grows_energy own c k b e =
+    rw (← e, length-append (clear_each b) (own_energy own.nodetype (energy_in own.flags own.energy)), length-clear_each b, length-own_energy own.nodetype (energy_in own.flags own.energy))
 
 -- the sub-objects behind a reserved byte, as code has them
 behind : (x : ℕ) (s : List ℕ) → take (suc (length s) - 1) s ≡ s
@@ -97,6 +100,11 @@ grows_value own c t b p q o = go (eqb t 4) refl ∙ sym (rw (ne_eqb t 2 p, ne_eq
             ≡ length (cond s (b ++ sub_object 2 (link_of c (kind_of t))) (b ++ sub_object 4 (link_of c (kind_of t))))
         more true = sym (length-append b (sub_object 2 (link_of c (kind_of t))))
         more false = sym (length-append b (sub_object 4 (link_of c (kind_of t))))
+
+pub grows_other : (own : Own) (c : Neighbour) (m : MetricType) (t : ℕ) (b : List ℕ) → kind_in m ≡ kind_of t → (m ≡ NodeEnergy → ⊥) → (m ≡ LinkQuality → ⊥) → (m ≡ LinkColour → ⊥)
+    → length b + length (sub_object (cond (eqb t 7) 2 4) (link_of c (kind_of t))) ≡ length (recorded_body own c (kind_of t) b)
+unfolding kind_of
+grows_other own c m t b k p q o = grows_value own c t b (λ e. p (named m _ (k ∙ ap kind_of e))) (λ e. q (named m _ (k ∙ ap kind_of e))) (λ e. o (named m _ (k ∙ ap kind_of e)))
 
 -- ---- constraints and aggregated metrics keep their length
 

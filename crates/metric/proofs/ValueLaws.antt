@@ -6,7 +6,6 @@ use lib.Dec.{leb, ltb}
 use borrow.Author.Tests.{lt-ltb, le-ltb, leb-true, leb-false}
 use Rattle.std.specs.Prelude.{None, Some}
 use Rattle.std.specs.Option.{is_some}
-use Rattle.model.specs.Number.{Quantity, is_unknown}
 use Rattle.metric.specs.Sums.{sum_in}
 
 -- a sum fits where it is not past the maximum
@@ -16,10 +15,3 @@ sum_past most x v = go (leb (x + v) most) refl
     go : (b : Bool) → leb (x + v) most ≡ b → is_some (cond b (Some (x + v)) None) ≡ not (ltb most (x + v))
     go true h = rw (le-ltb most (x + v) (leb-true (x + v) most h))
     go false h = rw (lt-ltb most (x + v) (leb-false (x + v) most h))
-
--- what is not given is unknown
-pub unknown_by : (q : Quantity) (r : Bool) → is_some q ≡ not r → r ≡ is_unknown q
-unknown_by (Some v) true e = cc
-unknown_by (Some v) false e = refl
-unknown_by None true e = refl
-unknown_by None false e = cc

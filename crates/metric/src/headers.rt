@@ -1,5 +1,5 @@
 // Header bytes for the next hop.
-ghost use Rattle.std.specs.Prelude.{◌≡◌, ◌||◌, eqb};
+ghost use Rattle.std.specs.Prelude.{◌≡◌};
 ghost use Rattle.model.specs.Object.{kind_of, role_of};
 ghost use Rattle.model.specs.Update.{adds_nothing, next_flags, next_mode};
 
@@ -7,21 +7,16 @@ use crate::values;
 use model::Neighbour;
 use wire::{Header, MetricType};
 
-// Whether a metric's value is one number: throughput, latency and ETX.
-fn is_scalar(mctype: u8) -> bool
-    ensures { result ≡ eqb mctype 4 || eqb mctype 5 || eqb mctype 7 }
-{
-    matches!(mctype, 4 | 5 | 7)
-}
-
 // Whether this hop adds nothing to a recorded metric: its type is not known, or the link's value is not.
 fn adds_nothing(neighbour: Neighbour, mctype: u8) -> bool
     ensures { result ≡ adds_nothing neighbour (kind_of mctype) }
 {
-    if is_scalar(mctype) {
-        return values::link_value(neighbour, mctype).is_none();
+    match MetricType::from(mctype) {
+        MetricType::Throughput | MetricType::Latency | MetricType::Etx => values::link_value(
+            neighbour, mctype,
+        ).is_none(),
+        metric_type => !metric_type.is_known(),
     }
-    !MetricType::from(mctype).is_known()
 }
 
 // Byte 1: reserved bits are cleared, and O when C=0; P is set where a recorded metric gains nothing.

@@ -22,35 +22,39 @@ fn is_allowed(mctype: u8, a: u8) -> bool
 }
 
 // Whether a body is that of an NE with E=0.
-#[tactic(auto, using(crate::proofs::KindLaws::energy_other), unfolding(model::specs::Object::kind_of))]
 fn has_no_energy(mctype: u8, body: &[u8]) -> bool
     ensures { result ≡ no_energy (kind_of mctype) body.now }
 {
-    match (mctype, body) {
-        (2, [flags, ..]) => *flags % 2 == 0,
-        (2, []) => true,
+    match (MetricType::from(mctype), body) {
+        (MetricType::NodeEnergy, [flags, ..]) => *flags % 2 == 0,
+        (MetricType::NodeEnergy, []) => true,
         _ => false,
     }
 }
 
 // An HP metric whose count is 255 can count no hop.
-#[tactic(auto, unfolding(model::specs::Object::kind_of))]
 fn check_count(mctype: u8, body: &[u8]) -> Result<(), Leaf>
     ensures { leaf_number result ≡ cond (full_in (kind_of mctype) body.now) 34 0 }
 {
-    match (mctype, body) {
-        (3, [_, 255, ..]) => Err(Leaf::Count),
+    match (MetricType::from(mctype), body) {
+        (MetricType::HopCount, [_, 255, ..]) => Err(Leaf::Count),
         _ => Ok(()),
     }
 }
 
 // Whether the sum of a throughput or latency with the link's value, if that is known, is beyond its field.
-#[tactic(auto, using(crate::proofs::LeafLaws::beyond_other), unfolding(model::specs::Object::kind_of))]
 fn is_beyond(neighbour: Neighbour, mctype: u8, body: &[u8]) -> bool
     ensures { result ≡ is_beyond neighbour (kind_of mctype) body.now }
 {
-    match (mctype, values::link_value(neighbour, mctype)) {
-        (4 | 5, Some(v)) => values::add(4294967295, wire::number_4(body), v).is_none(),
+    let Some(v) = values::link_value(neighbour, mctype) else {
+        return false;
+    };
+    match MetricType::from(mctype) {
+        MetricType::Throughput | MetricType::Latency => values::add(
+            4294967295,
+            wire::number_4(body),
+            v,
+        ).is_none(),
         _ => false,
     }
 }

@@ -5,26 +5,26 @@ ghost use Rattle.model.specs.Update.{combine1};
 ghost use Rattle.metric.specs.Next.{clear_first, clear_second, combine_second};
 
 use crate::values;
+use wire::MetricType;
 
 // Byte 0 of a constraint's or an aggregated node metric's body, its reserved bits cleared.
-#[tactic(auto, using(crate::proofs::KindLaws::first_other), unfolding(model::specs::Object::kind_of))]
 pub fn clear_first(mctype: u8, x: u8) -> u8
     ensures { result ≡ clear_first (kind_of mctype) x }
 {
-    match mctype {
-        2 => x % 16,
-        1 | 3 | 6 | 8 => 0,
+    match MetricType::from(mctype) {
+        MetricType::NodeEnergy => x % 16,
+        MetricType::NodeState | MetricType::HopCount => 0,
+        MetricType::LinkQuality | MetricType::LinkColour => 0,
         _ => x,
     }
 }
 
 // Byte 1 of a constraint's body, its reserved bits cleared.
-#[tactic(auto, using(crate::proofs::KindLaws::second_other), unfolding(model::specs::Object::kind_of))]
 pub fn clear_second(mctype: u8, y: u8) -> u8
     ensures { result ≡ clear_second (kind_of mctype) y }
 {
-    match mctype {
-        1 => y % 4,
+    match MetricType::from(mctype) {
+        MetricType::NodeState => y % 4,
         _ => y,
     }
 }
@@ -42,9 +42,11 @@ fn combine_flags(a: u8, v: u8, y: u8) -> u8
 pub fn combine_second(mctype: u8, a: u8, v: u8, y: u8) -> u8
     ensures { result ≡ combine_second (kind_of mctype) a v y }
 {
-    match mctype {
-        1 => combine_flags(a, v, y),
-        2 | 3 => values::combine(a, 255, y as u32, v as u32) as u8,
+    match MetricType::from(mctype) {
+        MetricType::NodeState => combine_flags(a, v, y),
+        MetricType::NodeEnergy | MetricType::HopCount => values::combine(
+            a, 255, y as u32, v as u32,
+        ) as u8,
         _ => y,
     }
 }

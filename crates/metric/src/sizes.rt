@@ -7,7 +7,7 @@ ghost use Rattle.metric.specs.Next.{link_of};
 
 use crate::{colours, levels, values};
 use model::Neighbour;
-use wire::Header;
+use wire::{Header, MetricType};
 
 // The bytes that a recorded LQL metric gains: none where a level counts the hop.
 fn level_growth(level: u8, body: &[u8]) -> usize
@@ -44,15 +44,15 @@ fn value_growth(neighbour: Neighbour, mctype: u8) -> usize
 }
 
 // The bytes that a recorded metric gains.
-#[tactic(auto, using(crate::proofs::SizeLaws::grows_value), unfolding(model::specs::Object::kind_of, model::specs::Update::recorded_body))]
+#[tactic(auto, unfolding(model::specs::Update::recorded_body))]
 fn recorded_growth(neighbour: Neighbour, mctype: u8, body: &[u8]) -> usize
     ensures result_len { (own : Own) → length body.now + result ≡ length (recorded_body own neighbour (kind_of mctype) body.now) }
     ensures small { result ≤ 4 }
 {
-    match mctype {
-        2 => 2,
-        6 => level_growth(neighbour.lql, body),
-        8 => colour_growth(neighbour.colour, body),
+    match MetricType::from(mctype) {
+        MetricType::NodeEnergy => 2,
+        MetricType::LinkQuality => level_growth(neighbour.lql, body),
+        MetricType::LinkColour => colour_growth(neighbour.colour, body),
         _ => value_growth(neighbour, mctype),
     }
 }

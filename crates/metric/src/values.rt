@@ -8,6 +8,7 @@ ghost use Rattle.metric.specs.Next.{link_of};
 ghost use Rattle.metric.specs.Sums.{sum_in};
 
 use model::{Neighbour, Own};
+use wire::MetricType;
 
 // A value that is known where its bit is 1.
 fn known_if(bit: u8, value: u32) -> Option<u32>
@@ -17,29 +18,29 @@ fn known_if(bit: u8, value: u32) -> Option<u32>
 }
 
 // The link's value of a metric that is one number.
-#[tactic(auto, using(crate::proofs::KindLaws::link_other), unfolding(model::specs::Object::kind_of, model::specs::Constraint::link_value))]
+#[tactic(auto, unfolding(model::specs::Constraint::link_value))]
 pub fn link_value(neighbour: Neighbour, mctype: u8) -> Option<u32>
     ensures { result ≡ link_of neighbour (kind_of mctype) }
 {
-    match mctype {
-        4 => known_if(neighbour.flags / 32 % 2, neighbour.throughput),
-        5 => known_if(neighbour.flags / 16 % 2, neighbour.latency),
-        7 => known_if(neighbour.flags / 8 % 2, neighbour.etx as u32),
+    match MetricType::from(mctype) {
+        MetricType::Throughput => known_if(neighbour.flags / 32 % 2, neighbour.throughput),
+        MetricType::Latency => known_if(neighbour.flags / 16 % 2, neighbour.latency),
+        MetricType::Etx => known_if(neighbour.flags / 8 % 2, neighbour.etx as u32),
         _ => None,
     }
 }
 
 // What this hop puts into a metric.
-#[tactic(auto, using(crate::proofs::KindLaws::local_other), unfolding(model::specs::Object::kind_of, model::specs::Update::local_value))]
+#[tactic(auto, unfolding(model::specs::Update::local_value))]
 pub(crate) fn local_value(own: Own, neighbour: Neighbour, mctype: u8) -> Option<u32>
     ensures { result ≡ local_value own neighbour (kind_of mctype) }
 {
-    match mctype {
-        1 => Some((own.flags % 4) as u32),
-        2 => known_if(own.flags / 4 % 2, own.energy as u32),
-        3 => Some(1),
-        6 => Some(neighbour.lql as u32),
-        8 => Some(neighbour.colour as u32),
+    match MetricType::from(mctype) {
+        MetricType::NodeState => Some((own.flags % 4) as u32),
+        MetricType::NodeEnergy => known_if(own.flags / 4 % 2, own.energy as u32),
+        MetricType::HopCount => Some(1),
+        MetricType::LinkQuality => Some(neighbour.lql as u32),
+        MetricType::LinkColour => Some(neighbour.colour as u32),
         _ => link_value(neighbour, mctype),
     }
 }
