@@ -6,6 +6,7 @@ ghost use Rattle.wire.specs.Put.{Put};
 use crate::bytes;
 
 // Puts sub-objects with the hop's level counted.
+#[inline(never)]
 pub(crate) fn put_levels(out: &mut [u8], at: usize, level: u8, subs: &[u8]) -> usize
     requires level_bound { level ≤ 7 }
     requires subs_in_bounds { at + length (count_level level subs.now) ≤ length out.old }

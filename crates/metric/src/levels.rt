@@ -11,6 +11,7 @@ pub fn counts_in(level: u8, sub: u8) -> bool
 }
 
 // Whether some sub-object gains the hop's count.
+#[inline(never)]
 pub(crate) fn is_counted(level: u8, subs: &[u8]) -> bool
     ensures { result ≡ any_of (counts_in level) subs.now }
 {

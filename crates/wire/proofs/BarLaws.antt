@@ -39,29 +39,3 @@ module _ (seen : Bool) (o : Object) where
   pub bar_clear : known (kind o) ≡ true → 0 ≡ bar_by seen o → (cannot_be (role o) (row (kind o)) ≡ false) × (shaped (role o) (row (kind o)) o.body ≡ true)
   unfolding bar_by
   bar_clear k e = let (m, s, r) = no_bar (cannot_be (role o) (row (kind o))) (shaped (role o) (row (kind o)) o.body) seen (sym (rw k at e)) in (m, s)
-
--- ---- the use, as code asks for it
-
-module _ (s : Bool) where
-  -- 16 holds, whatever else
-  pub use_err : (b : ObjectBar) → object_bar_number b ≡ cond s 16 0 → object_bar_number b ≡ cond s 16 17
-  use_err b e = go s e
-    where
-      go : (s : Bool) → object_bar_number b ≡ cond s 16 0 → object_bar_number b ≡ cond s 16 17
-      go true e = e
-      go false e = absurd (some_bar b e)
-        where
-          some_bar : (b : ObjectBar) → object_bar_number b ≡ 0 → ⊥
-          some_bar at.Body e = omega arith
-          some_bar at.Repeat e = omega arith
-          some_bar at.Recorded e = omega arith
-          some_bar at.Unknown e = omega arith
-          some_bar at.Unmet e = omega arith
-
-  -- it does not
-  pub use_ok : ◌≡◌ {A = ℕ} (cond s 16 0) 0 → ◌≡◌ {A = ℕ} (cond s 16 17) 17
-  use_ok e = go s e
-    where
-      go : (s : Bool) → ◌≡◌ {A = ℕ} (cond s 16 0) 0 → ◌≡◌ {A = ℕ} (cond s 16 17) 17
-      go true e = absurd (omega arith)
-      go false e = refl

@@ -44,10 +44,10 @@ pub record With (g : Gathered) (h : Header) (t : Summary) (r : Gathered) : Type 
   pub summary : r.summary ≡ t
   pub flags : shows_mandatory r.flags.0 ≡ shows_mandatory g.flags.0 || mandatory (object_of h [])
 
--- one object more is gathered too, or has a bar, and what is gathered stays
-abbrev pub Adds : Gathered → List Object → Object → Result Unit ObjectBar → Gathered → Type 0
-Adds g es o (Ok u) h = Gathers h (es ++ (o ∷ []))
-Adds g es o (Err b) h = (object_bar (record { earlier = es; object = o }) ≡ object_bar_number b) × (h ≡ g)
+-- one object more is gathered too, or has a bar
+abbrev pub Adds : List Object → Object → Result Gathered ObjectBar → Type 0
+Adds es o (Ok g) = Gathers g (es ++ (o ∷ []))
+Adds es o (Err b) = object_bar (record { earlier = es; object = o }) ≡ object_bar_number b
 
 -- the reading of a run whose objects are whole
 abbrev pub whole_reading : List Object → model.Reading

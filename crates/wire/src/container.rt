@@ -63,8 +63,9 @@ fn read_objects(run: &[u8]) -> Result<Reading, Bar>
     while let Some(data) = containers.next() {
         let mut objects = Objects::new(data);
         while let Some(object) = objects.next() {
-            if let Err(bar) = gathered.add(object) {
-                return Err(first_bar(run, bar, gathered.count));
+            match gathered.add(object) {
+                Ok(more) => gathered = more,
+                Err(bar) => return Err(first_bar(run, bar, gathered.count)),
             }
         }
         if !objects.is_done() {

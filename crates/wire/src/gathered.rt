@@ -1,9 +1,9 @@
 // What the reading pass gathers of a run's objects, one behind another.
-ghost use Rattle.std.specs.Prelude.{◌≡◌, ◌<◌, true, false, List};
-ghost use Rattle.model.specs.Object.{kind, role};
+ghost use Rattle.std.specs.Prelude.{◌≡◌, ◌<◌, true, List};
+ghost use Rattle.model.specs.Object.{kind, role, aggregated};
 ghost use Rattle.model.specs.Object as model;
 ghost use Rattle.model.specs.Table.{row};
-ghost use Rattle.model.specs.Reading.{cannot_be, shaped};
+ghost use Rattle.model.specs.Reading.{shaped};
 ghost use Rattle.wire.specs.Front.{seen};
 ghost use Rattle.wire.specs.Gathered.{Gathers, Adds, With, untold, told_by};
 
@@ -23,20 +23,14 @@ pub struct Gathered {
     pub flags: FlagsSeen,
 }
 
-// What an object of known type without a bar tells, in place of what was told before it: an HP metric its count; a latency or an ETX that
-// is added up along the path, A=0, its value.
+// What an aggregated metric without a bar tells, in place of what was told before it: an HP metric its count; a latency or an ETX that is
+// added up along the path, A=0, its value.
 #[inline(always)]
 fn told_with(summary: Summary, object: Object) -> Summary
-    requires allowed { cannot_be (role (seen object)) (row (kind (seen object))) ≡ false }
+    requires of_role { role (seen object) ≡ aggregated }
     requires shaped { shaped (role (seen object)) (row (kind (seen object))) object.body.now ≡ true }
     ensures { result ≡ told_by summary (seen object.entry) }
 {
-    if object.header.is_constraint() {
-        return summary;
-    }
-    if object.header.is_recorded() {
-        return summary;
-    }
     let is_added = object.header.aggregation() == 0;
     match (object.header.metric_type(), object.body) {
         (MetricType::HopCount, [_, count, ..]) => Summary {
@@ -92,17 +86,23 @@ impl Gathered {
 
     // One object more, or the lowest of bars 15 to 17 that it has. Of an object of unknown type only the flags are kept.
     #[inline(always)]
-    pub(crate) fn add(&mut self, object: Object) -> Result<(), ObjectBar>
-        requires { self.old.count < 18446744073709551615 }
-        ensures { (es : List model.Object) → Gathers self.old es → Adds self.old es (seen object.entry) result self.new }
+    pub(crate) fn add(self, object: Object) -> Result<Gathered, ObjectBar>
+        requires { self.count < 18446744073709551615 }
+        ensures { (es : List model.Object) → Gathers self es → Adds es (seen object.entry) result }
     {
         let header = object.header;
         if !header.metric_type().is_known() {
-            *self = self.with(header, self.summary);
-            return Ok(());
+            return Ok(self.with(header, self.summary));
         }
-        bars::check(self.uses, object)?;
-        *self = self.with(header, told_with(self.summary, object));
-        Ok(())
+        if header.is_constraint() {
+            bars::check_constraint(self.uses, object)?;
+            return Ok(self.with(header, self.summary));
+        }
+        if header.is_recorded() {
+            bars::check_recorded(self.uses, object)?;
+            return Ok(self.with(header, self.summary));
+        }
+        bars::check_aggregated(self.uses, object)?;
+        Ok(self.with(header, told_with(self.summary, object)))
     }
 }

@@ -1,7 +1,6 @@
-use mathlib.Core.Path.{ap}
+use mathlib.Core.Path.{refl}
 use native.Mathlib.Omega.{arith}
 use borrow.Author.Rules.{rules}
-use Rattle.wire.specs.declared.gathered.Gathered.{Gathered}
 use Rattle.wire.proofs.ReadLaws.{pass_start, pass_into, pass_out, pass_cut, pass_room, pass_onward, pass_fits, pass_barred, pass_count, pass_whole}
 use Rattle.wire.proofs.container.read_objects.Goals as goal
 
@@ -18,19 +17,19 @@ pub first_bar-requires-clause-fits : goal.first_bar-requires-clause-fits
 first_bar-requires-clause-fits c =
     let w = c.loop-object.invariant in
     let b = c.in-Err.ensures _ w.gathers in
-    pass_fits _ _ _ _ _ _ w c.in-Some-next.ensures.steps.0 c.in-Some-next.ensures.steps.1 _ _ b.0 (ap (λ (g : Gathered). g.count) b.1) (λ i. omega (arith, c.type_inv.run i)) c.requires.few
+    pass_fits _ _ _ _ _ _ w c.in-Some-next.ensures.steps.0 c.in-Some-next.ensures.steps.1 _ _ b refl (λ i. omega (arith, c.type_inv.run i)) c.requires.few
 
 pub returns-in-Err : goal.returns-in-Err
 returns-in-Err c =
     let w = c.loop-object.invariant in
     let b = c.in-Err.ensures _ w.gathers in
-    let e = pass_barred _ _ _ _ _ _ w c.in-Some-next.ensures.steps.0 c.in-Some-next.ensures.steps.1 _ _ b.0 (ap (λ (g : Gathered). g.count) b.1) in
+    let e = pass_barred _ _ _ _ _ _ w c.in-Some-next.ensures.steps.0 c.in-Some-next.ensures.steps.1 _ _ b refl in
     search (rules, e)
 
 pub loop-object-preserved : goal.loop-object-preserved
 loop-object-preserved c =
     let w = c.loop-object.invariant in
-    pass_onward _ _ _ _ _ _ w c.in-Some-next.ensures.steps.0 c.in-Some-next.ensures.steps.1 _ (c.in_default-add.ensures _ w.gathers)
+    pass_onward _ _ _ _ _ _ w c.in-Some-next.ensures.steps.0 c.in-Some-next.ensures.steps.1 _ (c.in-Ok.ensures _ w.gathers)
 
 pub returns-then-not-is_done : goal.returns-then-not-is_done
 returns-then-not-is_done c = pass_cut _ _ _ _ _ c.loop-object.invariant c.in_default-next.ensures.steps.1 (search rules)

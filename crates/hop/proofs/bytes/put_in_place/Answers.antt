@@ -5,7 +5,7 @@ use mathlib.Core.List.{append_assoc}
 use lib.ListN.{length, take, drop}
 use Rattle.std.proofs.lemmas.List.{drop-drop}
 use Rattle.std.proofs.lemmas.List.Edits.{sets-eq}
-use Rattle.hop.proofs.bytes.put_bytes.Goals as goal
+use Rattle.hop.proofs.bytes.put_in_place.Goals as goal
 
 pub returns : goal.returns
 returns c =
