@@ -1,6 +1,7 @@
 // Bars 15 to 17 at an object of known type, by its role and the uses seen before it. Each role has its own way through them, so that an
 // object meets no test of another one.
 ghost use Rattle.std.specs.Prelude.{◌≡◌, true, cond, []};
+ghost use Rattle.model.specs.Bars.{object_bar_number};
 ghost use Rattle.model.specs.Object.{kind_of, known, role_of, constraint, recorded, aggregated};
 ghost use Rattle.model.specs.Table.{row};
 ghost use Rattle.model.specs.Reading.{cannot_be};
@@ -44,13 +45,13 @@ fn check_use(uses: Uses, header: Header) -> Result<(), ObjectBar>
 
 // The lower of 16 and 17 at a metric that its type cannot be: the shape of its body is not asked for.
 #[inline(always)]
-fn check_misused(uses: Uses, header: Header) -> Result<(), ObjectBar>
-    ensures { bar_in result ≡ cond (has_use uses.0 (object_of header [])) 16 17 }
+fn misuse(before: Uses, header: Header) -> ObjectBar
+    ensures { object_bar_number result ≡ cond (has_use before.0 (object_of header [])) 16 17 }
 {
-    if uses.has(header) {
-        return Err(ObjectBar::Repeat);
+    if before.has(header) {
+        return ObjectBar::Repeat;
     }
-    Err(ObjectBar::Recorded)
+    ObjectBar::Recorded
 }
 
 // The lower of 15 and 16 at a constraint.
@@ -75,7 +76,7 @@ pub(crate) fn check_recorded(uses: Uses, object: Object) -> Result<(), ObjectBar
 {
     let metric_type = object.header.metric_type();
     if cannot_be_recorded(metric_type) {
-        return check_misused(uses, object.header);
+        return Err(misuse(uses, object.header));
     }
     if !bodies::is_series(metric_type, object.body) {
         return Err(ObjectBar::Body);
@@ -92,7 +93,7 @@ pub(crate) fn check_aggregated(uses: Uses, object: Object) -> Result<(), ObjectB
 {
     let metric_type = object.header.metric_type();
     if cannot_be_aggregated(metric_type) {
-        return check_misused(uses, object.header);
+        return Err(misuse(uses, object.header));
     }
     if !bodies::is_fixed(metric_type, object.body) {
         return Err(ObjectBar::Body);

@@ -92,7 +92,7 @@ impl Gathered {
     {
         let header = object.header;
         if !header.metric_type().is_known() {
-            return Ok(self.with(header, self.summary));
+            return Ok(self.with(header, self.summary)); // an unknown type may repeat
         }
         if header.is_constraint() {
             bars::check_constraint(self.uses, object)?;

@@ -11,7 +11,7 @@ pub returns-then-cannot_be_aggregated : goal.returns-then-cannot_be_aggregated
 returns-then-cannot_be_aggregated c =
     let o = seen c.args.object in
     let u : cannot_be (role o) (row (kind o)) ≡ true = rw (c.requires.of_role, ← c.metric_type-metric_type.ensures) (sym c.cannot_be_aggregated.ensures ∙ c.if-cannot_be_aggregated.true) in
-    c.check_misused.ensures ∙ bar_misused _ o c.requires.is_known u
+    c.misuse.ensures ∙ bar_misused _ o c.requires.is_known u
 
 pub returns-then-not-is_fixed : goal.returns-then-not-is_fixed
 returns-then-not-is_fixed c =

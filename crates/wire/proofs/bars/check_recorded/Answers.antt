@@ -11,7 +11,7 @@ pub returns-then-cannot_be_recorded : goal.returns-then-cannot_be_recorded
 returns-then-cannot_be_recorded c =
     let o = seen c.args.object in
     let u : cannot_be (role o) (row (kind o)) ≡ true = rw (c.requires.of_role, ← c.metric_type-metric_type.ensures) (sym c.cannot_be_recorded.ensures ∙ c.if-cannot_be_recorded.true) in
-    c.check_misused.ensures ∙ bar_misused _ o c.requires.is_known u
+    c.misuse.ensures ∙ bar_misused _ o c.requires.is_known u
 
 pub returns-then-not-is_series : goal.returns-then-not-is_series
 returns-then-not-is_series c =
