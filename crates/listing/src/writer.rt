@@ -49,7 +49,7 @@ impl<'a> Writer<'a> {
         }
     }
 
-    // Puts a number in decimal and a byte behind it.
+    // Puts a number in decimal and a byte behind it; by hand, since the contract of `write!` does not say which bytes it writes.
     fn number(&mut self, n: u8, end: u8)
         requires { self.old.used + 4 ≤ length self.old.out.now }
         ensures same_output { self.new.out.ghost_name ≡ self.old.out.ghost_name }

@@ -47,7 +47,7 @@ pub fn words(number: u8) -> &'static str
     }
 }
 
-// Writes what a number means at the start of an output; answers the length of the words: 0 for a number without a meaning, and
+// Writes what a number means at the start of an output, for C, which asks by number and lends the room; answers the length of the words: 0 for a number without a meaning, and
 // for an output under MEANING_ROOM bytes.
 #[tactic(auto, unfolding(crate::specs::Meaning::told, crate::specs::Meaning::told_in))]
 pub fn put_meaning(number: u8, out: &mut [u8]) -> usize

@@ -59,7 +59,8 @@ pub(crate) fn add(most: u32, x: u32, v: u32) -> Option<u32>
     x.checked_add(v).filter(|sum| *sum <= most)
 }
 
-// The received value combined with the local one: A=0 adds, 1 takes the larger, 2 the smaller.
+// The received value combined with the local one: A=0 adds, 1 takes the larger, 2 the smaller. One function serves every field, by the field's
+// maximum; a trait over the widths would refuse the maximum 1 of a flag, which this answers for.
 pub fn combine(a: u8, most: u32, x: u32, v: u32) -> u32
     ensures { result ≡ update.combine a most x v }
 {

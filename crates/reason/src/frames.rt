@@ -21,6 +21,8 @@ pub(crate) fn outside(candidate: Candidate, lent: usize) -> Shortfall
     }
 }
 
+// Both walks go by index and size, since what runs past what is told by its sizes; wire's iterators end there without a word.
+
 // Bar 14 in one container, by its data and the index of its first object among the joined ones: the index behind the last, unless an object
 // is cut short.
 fn objects_of(bytes: &[u8], first: u64) -> Result<u64, Shortfall>

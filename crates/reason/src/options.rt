@@ -47,6 +47,8 @@ pub(crate) fn option_at(run: &[u8], at: usize) -> Result<Piece, Shortfall>
     })
 }
 
+// Both walks go by index, since the index of an option that is cut short is told; wire's iterator has none.
+
 // Bar 22: no option is cut short.
 pub(crate) fn check(run: &[u8]) -> Result<(), Shortfall>
     ensures { finding_from result ≡ cut_option_finding run.now }

@@ -12,6 +12,8 @@ ghost use Rattle.verdict.specs.Judged.{Tabled, WellFormed, FirstBarring, object_
 use model::{Bar, Neighbour, ObjectBar, Summary};
 use wire::{Containers, MetricType, Object, Objects};
 
+// One function for the next four would take the field and its bit, and say no more than `then_some` does.
+
 // The neighbour's energy, where it is known.
 fn energy_of(neighbour: &Neighbour) -> Option<u8>
     ensures { result ≡ energy_in neighbour.now.flags neighbour.now.energy }

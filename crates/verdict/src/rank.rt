@@ -36,7 +36,7 @@ fn highest(own: &Own) -> u32
     (own.lowest.0 as u32) + (own.maxincrease as u32)
 }
 
-// Bar 21 of a resulting rank.
+// Bar 21 of a resulting rank. The bit of L and L are asked for in one test; an Option of them would be made to be taken apart.
 fn is_above_lowest(own: &Own, rank: Rank) -> bool
     ensures { (c : Neighbour) → rank.0 ≡ resulting own.now c → result ≡ above_lowest own.now c }
 {

@@ -84,7 +84,7 @@ pub(crate) fn check_recorded(uses: Uses, object: Object) -> Result<(), ObjectBar
     check_use(uses, object.header)
 }
 
-// The lowest of 15, 16 and 17 at an aggregated metric.
+// The lowest of 15, 16 and 17 at an aggregated metric. One function for this and the last would be handed two tests, and each its own order.
 #[inline(always)]
 pub(crate) fn check_aggregated(uses: Uses, object: Object) -> Result<(), ObjectBar>
     requires is_known { known (kind_of object.header.mctype) ≡ true }

@@ -63,6 +63,7 @@ impl<'a> Iterator for Containers<'a> {
     ghost remaining = { item_count (λ s. data_front s.rest.now) };
 
     #[inline(always)]
+    // A loop by hand: what is left behind the container that is found, or behind none, stays in the iterator.
     fn next(&mut self) -> Option<&'a [u8]> {
         loop {
             self.rest = &self.rest[pads(self.rest)..];

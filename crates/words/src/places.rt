@@ -16,7 +16,8 @@ fn in_word(byte: u8) -> bool
     !matches!(byte, b' ' | b'\t' | b'\r' | b'#')
 }
 
-// The index of the first byte from an index on that fails a test, or the text's length; an index beyond it is its own answer.
+// The index of the first byte from an index on that fails a test, or the text's length, at which callers cut the text as at any other; an
+// index beyond it is its own answer.
 #[tactic(auto, unfolding(crate::specs::Places::behind))]
 fn behind<F: Fn(u8) -> bool>(text: &[u8], from: usize, passes: F) -> usize
     requires { F.IsAlwaysCallable passes }
