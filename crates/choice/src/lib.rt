@@ -33,7 +33,7 @@ pub fn call(
         return answers::refused(refusal);
     }
     let mut answer = answers::blank();
-    let mut best = None;
+    let mut best: Option<Parent> = None;
     for (i, candidate) in candidates[..count].iter().enumerate() {
         match verdict::judge(&own, candidate, lent) {
             Verdict::Barred(bar) => {
