@@ -11,6 +11,7 @@ pub const MOST_ROOM: usize = 2100;
 #[derive(Drop)]
 pub struct Case {
     pub own: Own,
+    // An array and a count, as a call has them: a count above 16 is refused by 2.
     pub candidates: [Candidate; 16],
     pub count: usize,
     pub room: usize,

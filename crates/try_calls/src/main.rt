@@ -56,6 +56,7 @@ fn run_line(out: &mut Stdout, line: &[u8]) -> io::Result<()> {
     let mut fields = Fields { rest: behind };
     if let Some(given) = Case::read(&mut fields) {
         let mut lent = [0u8; 65536];
+        // An array and how many of its bytes were read: a run has no other bound, and nothing here allocates.
         let n = words::bytes(fields.rest, &mut lent);
         if n * 3 == fields.rest.len() {
             return run_case(out, &given, &lent[..n]);

@@ -69,7 +69,7 @@ pub(crate) fn reason(out: &mut Stdout, why: Result<Standing, Refused>) -> io::Re
     match why {
         Err(refused) => write!(out, " refused-{}", refused.number()),
         Ok(Standing::Chosen) => write!(out, " chosen"),
-        Ok(Standing::Barred { number, place }) => verdict(out, number, place),
+        Ok(Standing::Barred(bar)) => verdict(out, bar.number(), bar.place().unwrap_or(65535)),
         Ok(
             Standing::Beaten {
                 parent,

@@ -31,6 +31,7 @@ fn run_line(out: &mut Stdout, line: &[u8]) -> io::Result<()> {
     let (name, behind) = line.split_at(words::find(line, 0, b' '));
     out.write_all(name)?;
     let mut bytes = [0u8; 512];
+    // An array and how many of its bytes were read, since nothing here allocates.
     let n = words::bytes(behind, &mut bytes);
     if n * 3 != behind.len() {
         return writeln!(out, " unreadable");
