@@ -8,6 +8,8 @@ pub mod EntryLaws
 pub mod RunWalkLaws
 pub mod OptionLaws
 pub mod PassLaws
+pub mod BytesLaws
+pub mod YieldedLaws
 pub mod FrameLaws
 pub mod TlvLaws
 pub mod BodyLaws

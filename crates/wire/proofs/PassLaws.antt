@@ -33,7 +33,7 @@ joined-none : (r : Option (List Object)) → joined r none ≡ none
 joined-none none = refl
 joined-none (some os) = refl
 
-run_by : (bs : List ℕ) → run_objects bs ≡ cond (ends_at (options_left bs)) (objects_of (data_front bs)) none
+pub run_by : (bs : List ℕ) → run_objects bs ≡ cond (ends_at (options_left bs)) (objects_of (data_front bs)) none
 unfolding data_front
 run_by bs = rw (options_exact bs) (go (options_left bs))
   where

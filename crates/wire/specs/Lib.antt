@@ -7,6 +7,7 @@ pub mod Entry
 pub mod Start
 pub mod Frame
 pub mod Walk
+pub mod Yielded
 pub mod Row
 pub mod Reading
 pub mod Put
