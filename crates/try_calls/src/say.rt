@@ -1,4 +1,5 @@
 // Writing the answer of a case, and the reasons.
+use arrayvec::ArrayVec;
 use model::Answer;
 use reason::{Refused, Standing};
 use std::io;
@@ -55,7 +56,10 @@ fn verdict(out: &mut Stdout, number: u8, place: u16) -> io::Result<()> {
 // The first bytes of an output, so many as the size says, and whether all others are as before.
 fn output(out: &mut Stdout, sent: &[u8], size: usize) -> io::Result<()> {
     for byte in sent.iter().take(size) {
-        write!(out, " {byte:02x}")?;
+        // gathered, since standard output takes each piece of a text by itself
+        let mut word = ArrayVec::<u8, 3>::new();
+        write!(word, " {byte:02x}")?;
+        out.write_all(word.as_slice())?;
     }
     if sent.iter().skip(size).all(|byte| *byte == 0xEE) {
         write!(out, " kept")
