@@ -1,4 +1,6 @@
 // What is told of a call so far.
+ghost use Rattle.choose.specs.Line.{NoMoreLeft};
+
 use crate::candidate::CandidateSettings;
 use crate::fault::Fault;
 use crate::lent::Lent;
@@ -51,7 +53,9 @@ impl Call {
     }
 
     // Takes a setting of the last candidate, or of the call where there is none, with what stands behind it.
-    pub(crate) fn take(&mut self, setting: Setting, line: &mut Rest<'_>) -> Result<(), Fault> {
+    pub(crate) fn take(&mut self, setting: Setting, line: &mut Rest<'_>) -> Result<(), Fault>
+        ensures { NoMoreLeft line.old line.new }
+    {
         match self.candidates.as_mut_slice().last_mut() {
             Some(candidate) => candidate.take(setting, line, &mut self.lent),
             None => self.own.take(setting, line, &mut self.lent),

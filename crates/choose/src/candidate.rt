@@ -1,4 +1,6 @@
 // What is told of a candidate.
+ghost use Rattle.choose.specs.Line.{NoMoreLeft};
+
 use crate::fault::Fault;
 use crate::lent::Lent;
 use crate::line::Rest;
@@ -112,7 +114,9 @@ impl CandidateSettings {
         setting: Setting,
         line: &mut Rest<'_>,
         lent: &mut Lent,
-    ) -> Result<(), Fault> {
+    ) -> Result<(), Fault>
+        ensures { NoMoreLeft line.old line.new }
+    {
         if !self.given.insert(setting) {
             return Err(Fault::Twice(setting));
         }
@@ -157,7 +161,9 @@ impl CandidateSettings {
 }
 
 // Takes a setting of a neighbour, or of the link to it.
-fn take(one: &mut Neighbour, setting: Setting, line: &mut Rest<'_>) -> Result<(), Fault> {
+fn take(one: &mut Neighbour, setting: Setting, line: &mut Rest<'_>) -> Result<(), Fault>
+    ensures { NoMoreLeft line.old line.new }
+{
     match setting {
         Setting::Rank => one.rank = Rank(line.number(setting)?),
         Setting::Sp => one.sp = line.number(setting)?,

@@ -1,46 +1,66 @@
 // Standard input. `try_calls` has another like it: a function that reads belongs to its program (docs/DECISIONS.md).
-use arrayvec::ArrayVec;
+ghost use Rattle.std.specs.Prelude.{◌≤◌};
+
 use std::io;
 use std::io::{Read, Stdin};
 
-// The bytes that are read and not looked at yet, and the error of the first read that failed: nothing is read after it.
+const ROOM: usize = 65536;
+
+// The bytes that are read and not looked at yet, and the error of the first read that failed: nothing is read after it. An array and
+// how many of its bytes are held: a read writes behind these, where an `ArrayVec` lends no room.
 #[derive(Drop)]
 pub struct Input {
     pub failed: Option<io::Error>,
-    held: ArrayVec<u8, 65536>,
+    buffer: [u8; ROOM],
+    held: usize,
     reader: Stdin,
+    ghost held_fits: { held ≤ 65536 },
 }
 
 impl Input {
     pub(crate) fn from(reader: Stdin) -> Input {
         Input {
             failed: None,
-            held: ArrayVec::new(),
+            buffer: [0; ROOM],
+            held: 0,
             reader,
         }
     }
 
     // Reads on until there is no more room, the input ends or a read fails.
-    pub(crate) fn fill(&mut self) {
-        if self.failed.is_none() {
-            let room = self.held.remaining_capacity() as u64;
-            self.failed = io::copy(&mut (&self.reader).take(room), &mut self.held).err();
+    pub(crate) fn fill(&mut self)
+        ensures { self.old.held ≤ self.new.held }
+    {
+        while self.held < ROOM {
+            if self.failed.is_some() {
+                return;
+            }
+            match self.reader.read(&mut self.buffer[self.held..]) {
+                Ok(0) => return,
+                Ok(n) => self.held += n,
+                Err(e) => {
+                    self.failed = Some(e);
+                    return;
+                }
+            }
         }
     }
 
     pub(crate) fn bytes(&self) -> &[u8] {
-        self.held.as_slice()
+        &self.buffer[..self.held]
     }
 
     // Whether there may be more to come.
     pub(crate) fn is_full(&self) -> bool {
-        self.held.is_full()
+        self.held == ROOM
     }
 
     // Keeps so many of the last bytes.
-    pub(crate) fn keep(&mut self, n: usize) {
-        let from = self.held.len().saturating_sub(n);
-        self.held.as_mut_slice().copy_within(from.., 0);
-        self.held.truncate(n);
+    pub(crate) fn keep(&mut self, n: usize)
+        ensures { self.new.held ≤ self.old.held }
+    {
+        let from = self.held.saturating_sub(n);
+        self.buffer.copy_within(from..self.held, 0);
+        self.held -= from;
     }
 }

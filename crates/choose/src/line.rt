@@ -1,6 +1,7 @@
 // What is left of a line: words, numbers and bytes.
-ghost use Rattle.std.specs.Prelude.{◌≤◌, length, IfOk};
+ghost use Rattle.std.specs.Prelude.{◌≡◌, ◌≤◌, length, IfOk, OnErr};
 ghost use Rattle.std.specs.Iterator.{at_most};
+ghost use Rattle.choose.specs.Line.{NoMoreLeft};
 
 use crate::fault::Fault;
 use crate::setting::Setting;
@@ -39,7 +40,9 @@ impl<'a> Rest<'a> {
     }
 
     // The next word; none at the line's end or at a comment.
-    pub(crate) fn word(&mut self) -> Option<&'a [u8]> {
+    pub(crate) fn word(&mut self) -> Option<&'a [u8]>
+        ensures { NoMoreLeft self.old self.new }
+    {
         let text = &self.bytes[words::word_start(self.bytes, 0)..];
         let (word, behind) = text.split_at(words::word_end(text, 0));
         if word.is_empty() {
@@ -51,7 +54,9 @@ impl<'a> Rest<'a> {
 
     // The number behind a setting, which is at most so large. Any other word is left on the line, since it can begin a call.
     pub(crate) fn up_to(&mut self, setting: Setting, most: u64) -> Result<u64, Fault>
-        ensures { IfOk result (λ n. n ≤ most) }
+        ensures bound { IfOk result (λ n. n ≤ most) }
+        ensures left { NoMoreLeft self.old self.new }
+        ensures unread { OnErr result (self.new.bytes.now ≡ self.old.bytes.now) }
     {
         let mut behind = *self;
         let word = behind.word().ok_or(Fault::NoNumber(setting))?;
@@ -66,7 +71,9 @@ impl<'a> Rest<'a> {
     }
 
     // The number behind a setting, for a field.
-    pub(crate) fn number<T: Field>(&mut self, setting: Setting) -> Result<T, Fault> {
+    pub(crate) fn number<T: Field>(&mut self, setting: Setting) -> Result<T, Fault>
+        ensures { NoMoreLeft self.old self.new }
+    {
         let n = self.up_to(setting, T::MOST)?;
         T::try_from(n).map_err(|_| Fault::TooLarge(setting, T::MOST))
     }
@@ -77,7 +84,9 @@ impl<'a> Rest<'a> {
     }
 
     // Leaves nothing of the line.
-    pub(crate) fn end(&mut self) {
+    pub(crate) fn end(&mut self)
+        ensures { NoMoreLeft self.old self.new }
+    {
         self.bytes = &[];
     }
 }

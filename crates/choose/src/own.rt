@@ -1,5 +1,6 @@
 // What is told of the node itself, and of the call.
 ghost use Rattle.std.specs.Prelude.{◌≤◌};
+ghost use Rattle.choose.specs.Line.{NoMoreLeft};
 
 use crate::fault::Fault;
 use crate::lent::Lent;
@@ -71,7 +72,9 @@ impl OwnSettings {
         setting: Setting,
         line: &mut Rest<'_>,
         lent: &mut Lent,
-    ) -> Result<(), Fault> {
+    ) -> Result<(), Fault>
+        ensures { NoMoreLeft line.old line.new }
+    {
         if !self.given.insert(setting) {
             return Err(Fault::Twice(setting));
         }
@@ -90,7 +93,9 @@ impl OwnSettings {
 }
 
 // Takes a setting of the node itself.
-fn take(own: &mut Own, setting: Setting, line: &mut Rest<'_>) -> Result<(), Fault> {
+fn take(own: &mut Own, setting: Setting, line: &mut Rest<'_>) -> Result<(), Fault>
+    ensures { NoMoreLeft line.old line.new }
+{
     match setting {
         Setting::Minhop => own.minhop = line.number(setting)?,
         Setting::Maxincrease => own.maxincrease = line.number(setting)?,

@@ -54,7 +54,8 @@ fn containers(out: &mut Output, sent: &[u8]) -> io::Result<()> {
         return writeln!(out, " none");
     }
     for byte in sent {
-        write!(out, " {byte:02X}")?;
+        out.byte(b' ')?;
+        out.hex(*byte)?;
     }
     writeln!(out)
 }

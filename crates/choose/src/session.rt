@@ -1,4 +1,7 @@
 // From lines to words, and from words to calls.
+ghost use Rattle.std.specs.Prelude.{◌≤◌, length, IfOk};
+ghost use Rattle.choose.specs.Line.{NoMoreLeft};
+
 use crate::answer;
 use crate::call::Call;
 use crate::fault::Fault;
@@ -47,7 +50,9 @@ impl Session {
     }
 
     // Reads the lines of a text that have an end; answers what stands behind the last.
-    pub(crate) fn lines<'a>(&mut self, text: &'a [u8], out: &mut Output) -> io::Result<&'a [u8]> {
+    pub(crate) fn lines<'a>(&mut self, text: &'a [u8], out: &mut Output) -> io::Result<&'a [u8]>
+        ensures { IfOk result (λ last. length last.now ≤ length text.now) }
+    {
         let mut lines = text.split(|byte| *byte == b'\n');
         let last = lines.next_back().unwrap_or(&[]);
         for line in lines {
@@ -57,7 +62,9 @@ impl Session {
     }
 
     // Drops the start of a line that has no end yet, where it is too long; answers how many of its bytes are left.
-    pub(crate) fn kept(&mut self, line: &[u8]) -> usize {
+    pub(crate) fn kept(&mut self, line: &[u8]) -> usize
+        ensures { result ≤ length line.now }
+    {
         if line.len() <= LONGEST {
             return line.len();
         }
@@ -96,7 +103,9 @@ impl Session {
     }
 
     // Reads a word, and what belongs to it.
-    fn word(&mut self, word: &[u8], rest: &mut Rest<'_>, out: &mut Output) -> io::Result<()> {
+    fn word(&mut self, word: &[u8], rest: &mut Rest<'_>, out: &mut Output) -> io::Result<()>
+        ensures { NoMoreLeft rest.old rest.new }
+    {
         if matches!(word, b"call") {
             self.end_call(out)?;
             self.begin_call();
@@ -109,7 +118,9 @@ impl Session {
     }
 
     // Reads a word of a call; none where words are skipped.
-    fn read(&mut self, word: &[u8], rest: &mut Rest<'_>) -> Result<(), Fault> {
+    fn read(&mut self, word: &[u8], rest: &mut Rest<'_>) -> Result<(), Fault>
+        ensures { NoMoreLeft rest.old rest.new }
+    {
         match self.place {
             Place::BeforeCalls => return Err(Fault::BeforeCall),
             Place::Skipped => return Ok(()),

@@ -40,7 +40,9 @@ impl Case {
     }
 
     // How many candidates stand on the line.
-    pub(crate) fn shown(&self) -> usize {
+    pub(crate) fn shown(&self) -> usize
+        ensures { result ≤ 16 }
+    {
         self.count.min(16)
     }
 }

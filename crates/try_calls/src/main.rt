@@ -13,6 +13,8 @@
 // its end among them; of a longer one each 65,536 bytes are taken for a line.
 #![tactic(auto)]
 
+ghost use Rattle.std.specs.Prelude.{◌≤◌, length, IfOk};
+
 use crate::case::{Case, MOST_ROOM};
 use crate::fields::Fields;
 use crate::input::Input;
@@ -66,7 +68,9 @@ fn run_line(out: &mut Stdout, line: &[u8]) -> io::Result<()> {
 }
 
 // Runs each line of a text that has an end, and answers how long what stands behind the last end is.
-fn run_lines(out: &mut Stdout, text: &[u8]) -> io::Result<usize> {
+fn run_lines(out: &mut Stdout, text: &[u8]) -> io::Result<usize>
+    ensures { IfOk result (λ n. n ≤ length text.now) }
+{
     let mut lines = text.split(|byte| *byte == b'\n');
     let last = lines.next_back().unwrap_or(&[]);
     for line in lines {

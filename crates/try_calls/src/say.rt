@@ -4,6 +4,8 @@ use reason::{Refused, Standing};
 use std::io;
 use std::io::{Stdout, Write};
 
+const DIGITS: [u8; 16] = *b"0123456789abcdef";
+
 // The answer of a call with so many candidates, and the output behind it.
 pub(crate) fn answer(
     out: &mut Stdout,
@@ -55,7 +57,13 @@ fn verdict(out: &mut Stdout, number: u8, place: u16) -> io::Result<()> {
 // The first bytes of an output, so many as the size says, and whether all others are as before.
 fn output(out: &mut Stdout, sent: &[u8], size: usize) -> io::Result<()> {
     for byte in sent.iter().take(size) {
-        write!(out, " {byte:02x}")?;
+        // one write, since standard output takes each piece of a text by itself
+        let digits = [
+            b' ',
+            DIGITS[(*byte / 16) as usize],
+            DIGITS[(*byte % 16) as usize],
+        ];
+        out.write_all(&digits)?;
     }
     if sent.iter().skip(size).all(|byte| *byte == 0xEE) {
         write!(out, " kept")

@@ -5,9 +5,10 @@
 // It takes the first 65,536 bytes of its input.
 #![tactic(auto)]
 
-use arrayvec::ArrayVec;
+ghost use Rattle.std.specs.Prelude.{◌≤◌, IfOk, length};
+
 use std::io;
-use std::io::{Read, Stdout, Write};
+use std::io::{Read, Stdin, Stdout, Write};
 use wire::Reading;
 
 // Writes what a container holds, and what it tells the tests of its constraints.
@@ -48,11 +49,26 @@ fn run_line(out: &mut Stdout, line: &[u8]) -> io::Result<()> {
     writeln!(out)
 }
 
+// Reads until a buffer is full or the input ends, and answers how many bytes stand at its start.
+fn read_full(mut input: Stdin, buffer: &mut [u8]) -> io::Result<usize>
+    ensures { IfOk result (λ n. n ≤ length buffer.new) }
+{
+    let mut done = 0;
+    while done < buffer.len() {
+        let n = input.read(&mut buffer[done..])?;
+        if n == 0 {
+            break;
+        }
+        done += n;
+    }
+    Ok(done)
+}
+
 fn main(rt: HostRuntime) -> io::Result<()> {
-    let mut input = ArrayVec::<u8, 65536>::new();
-    io::copy(&mut rt.stdin().take(65536), &mut input)?;
+    let mut input = [0u8; 65536];
+    let n = read_full(rt.stdin(), &mut input)?;
     let mut out = rt.stdout();
-    for line in input.as_slice().split_inclusive(|byte| *byte == b'\n') {
+    for line in input[..n].split_inclusive(|byte| *byte == b'\n') {
         run_line(&mut out, line.strip_suffix(b"\n").unwrap_or(line))?;
     }
     Ok(())

@@ -1,0 +1,2 @@
+-- What the program's own types promise one another.
+pub mod Line
