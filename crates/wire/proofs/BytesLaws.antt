@@ -1,11 +1,12 @@
 -- What is in front of bytes and what is left are the bytes.
-use Rattle.std.proofs.Common.{◌≡◌, refl, ℕ, zero, suc, Bool, true, false, cond, List, [], ◌∷◌, ◌++◌, length, take, drop}
+use Rattle.std.proofs.Common.{◌≡◌, refl, ap, ◌+◌, ◌*◌, ◌≤◌, arith, ℕ, zero, suc, Bool, true, false, cond, List, [], ◌∷◌, ◌++◌, length, take, drop}
 use mathlib.Core.List.{append_assoc}
-use lib.ListN.{take-append-drop}
+use lib.ListN.{take-append-drop, length-append}
 use lib.Seq.{length-take-le}
 use Rattle.std.specs.Prelude.{leb}
 use borrow.Author.Tests.{leb-true}
 use Rattle.model.specs.Object.{object, join}
+use Rattle.model.proofs.ObjectLaws.{join_four}
 use Rattle.model.specs.Run.{pad1, option, join_options}
 use Rattle.wire.specs.Front.{front_up_to, front, left_up_to, left}
 use Rattle.wire.specs.Options.{options_front_up_to, options_front, options_left_up_to, options_left}
@@ -29,6 +30,10 @@ front_bytes_up_to (suc k) (t ∷ f ∷ m ∷ n ∷ rest) = go (front_bytes_up_to
 pub front_bytes : FrontBytes
 unfolding front left
 front_bytes bs = front_bytes_up_to (length bs) bs
+
+-- an object has four bytes or more, so there are few
+pub front_room : (bs : List ℕ) → 4 * length (front bs) + length (left bs) ≤ length bs
+front_room bs = omega (arith, join_four (front bs), length-append (join (front bs)) (left bs), ap length (front_bytes bs))
 
 options_bytes_up_to : (k : ℕ) (bs : List ℕ) → join_options (options_front_up_to k bs) ++ options_left_up_to k bs ≡ bs
 unfolding options_front_up_to options_left_up_to join_options
