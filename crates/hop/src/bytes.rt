@@ -14,13 +14,17 @@ fn put_in_place(out: &mut [u8], at: usize, bytes: &[u8]) -> usize
     end
 }
 
-// Puts a run of bytes by a call, since a copy of any length that is made in place takes some 350 bytes.
+// Puts a run of bytes by a call, since a copy of any length that is made in place takes some 350 bytes. A loop, since a copy of slices
+// of any length calls `memmove`, which the libraries need nowhere else.
 #[inline(never)]
 fn put_by_call(out: &mut [u8], at: usize, bytes: &[u8]) -> usize
     requires { at + length bytes.now ≤ length out.old }
     ensures { Put out.old at bytes.now result out.new }
 {
-    put_in_place(out, at, bytes)
+    for (i, byte) in bytes.iter().enumerate() {
+        out[at + i] = *byte;
+    }
+    at + bytes.len()
 }
 
 // Puts a run of bytes. Behind what is changed there are mostly none.

@@ -59,6 +59,9 @@ pub fn put_meaning(number: u8, out: &mut [u8]) -> usize
         return 0;
     }
     let words = words(number).as_bytes();
-    out[..words.len()].copy_from_slice(words);
+    // a loop, since a copy of slices of any length calls `memmove`, which the library needs nowhere else
+    for (i, byte) in words.iter().enumerate() {
+        out[i] = *byte;
+    }
     words.len()
 }
