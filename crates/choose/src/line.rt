@@ -1,5 +1,5 @@
 // What is left of a line: words, numbers and bytes.
-ghost use Rattle.std.specs.Prelude.{◌≡◌, ◌≤◌, length, IfOk, OnErr};
+ghost use Rattle.std.specs.Prelude.{◌≡◌, ◌≤◌, ◌+◌, length, IfOk, IfSome, OnErr};
 ghost use Rattle.std.specs.Iterator.{at_most};
 ghost use Rattle.choose.specs.Line.{NoMoreLeft};
 
@@ -41,7 +41,8 @@ impl<'a> Rest<'a> {
 
     // The next word; none at the line's end or at a comment.
     pub(crate) fn word(&mut self) -> Option<&'a [u8]>
-        ensures { NoMoreLeft self.old self.new }
+        ensures left { NoMoreLeft self.old self.new }
+        ensures taken { IfSome result (λ word. length word.now + length self.new.bytes.now ≤ length self.old.bytes.now) }
     {
         let text = &self.bytes[words::word_start(self.bytes, 0)..];
         let (word, behind) = text.split_at(words::word_end(text, 0));

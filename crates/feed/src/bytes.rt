@@ -83,15 +83,16 @@ impl Keeper<'_> {
     fn close(&mut self)
         ensures { Becomes self.old self.new (closed self.old.fed) (closed_in self.old.fed self.old.kept.now) }
     {
+        // by tests and not a `match`, which took twice the time at an option of two bytes
         let Fed { size, count, .. } = self.fed;
-        self.fed = match self.fed.keep() {
-            Keep::Dropped => Fed::between(size.saturating_sub(1), count),
-            Keep::Empty => {
-                self.keep_byte(0);
-                Fed::between(self.fed.size, one_more(count))
-            }
-            Keep::Whole => Fed::between(size, one_more(count)),
-        };
+        if self.fed.keep() == Keep::Dropped {
+            self.fed = Fed::between(size.saturating_sub(1), count);
+            return;
+        }
+        if self.fed.keep() == Keep::Empty {
+            self.keep_byte(0);
+        }
+        self.fed = Fed::between(self.fed.size, one_more(count));
     }
 
     // An option of which so many bytes are missing.

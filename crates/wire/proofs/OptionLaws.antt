@@ -81,6 +81,18 @@ behind_pads bs p e =
     rw (take_all (length bs - p) (drop p bs) (rw length-drop (omega arith)), e)
     (record { items = a; left = b; head = pads_behind bs; size = rw length-drop (omega arith) })
 
+pub behind_unpadded : (bs d : List ℕ) → d ≡ drop (pads bs) bs → Behind bs d
+behind_unpadded bs d e =
+    let (a, b) = pads_over bs in
+    rw e (record { items = a; left = b; head = pads_behind bs; size = rw length-drop (omega arith) })
+
+-- where no padding is in front
+pub pads_none : (bs : List ℕ) → (slice_index_or bs 0 0 ≡ 0 → length bs ≡ 0) → bs ≡ drop (pads bs) bs
+unfolding pads
+pads_none [] z = refl
+pads_none (zero ∷ bs) z = absurd (omega (arith, z refl))
+pads_none (suc b ∷ bs) z = refl
+
 pub option_short : (bs : List ℕ) → length bs < 2 → (slice_index_or bs 0 0 ≡ 0 → length bs ≡ 0) → (data_front bs ≡ []) × (options_left bs ≡ bs)
 unfolding data_front containers options_front options_front_up_to options_left options_left_up_to
 option_short [] h z = (refl, refl)

@@ -1,5 +1,5 @@
 // A run of RPL options (RFC 6550, section 6.7), and the DAG Metric Containers in it.
-ghost use Rattle.std.specs.Prelude.{◌≡◌, ◌≤◌, length, position, not, eqb};
+ghost use Rattle.std.specs.Prelude.{◌≡◌, ◌≤◌, length, position, not, eqb, drop};
 ghost use Rattle.std.specs.Iterator.{YieldsFirstRef, item_count};
 ghost use Rattle.model.specs.Reading.{misframed, no_place};
 ghost use Rattle.wire.specs.Front.{ends_at};
@@ -55,6 +55,17 @@ fn pads(bytes: &[u8]) -> usize
     behind_pads(bytes).unwrap_or(bytes.len())
 }
 
+// What stands behind the Pad1 in front. Most options have none before them, and pay for one test.
+#[inline(always)]
+fn unpadded(bytes: &[u8]) -> &[u8]
+    ensures { result.now ≡ drop (pads bytes.now) bytes.now }
+{
+    match bytes {
+        [0, ..] => &bytes[pads(bytes)..],
+        _ => bytes,
+    }
+}
+
 impl<'a> Iterator for Containers<'a> {
     type Item = &'a [u8];
 
@@ -66,7 +77,7 @@ impl<'a> Iterator for Containers<'a> {
     // A loop by hand: what is left behind the container that is found, or behind none, stays in the iterator.
     fn next(&mut self) -> Option<&'a [u8]> {
         loop {
-            self.rest = &self.rest[pads(self.rest)..];
+            self.rest = unpadded(self.rest);
             let [kind, size, rest @ ..] = self.rest else {
                 return None;
             };
