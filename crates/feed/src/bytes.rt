@@ -83,7 +83,7 @@ impl Keeper<'_> {
     fn close(&mut self)
         ensures { Becomes self.old self.new (closed self.old.fed) (closed_in self.old.fed self.old.kept.now) }
     {
-        // by tests and not a `match`, which took twice the time at an option of two bytes
+        // by tests and not by a `match`, which takes 11 instructions more at an option of two bytes
         let Fed { size, count, .. } = self.fed;
         if self.fed.keep() == Keep::Dropped {
             self.fed = Fed::between(size.saturating_sub(1), count);

@@ -52,15 +52,16 @@ impl Keep {
     pub(crate) fn of(option_type: u8, count: u8) -> Keep
         ensures { keep_number_of result ≡ keep_number option_type count }
     {
+        // each answer by its own `return`: the numbers of an `if` with `else`s are worked out for every option, dropped ones too
         if option_type != 2 {
             return Keep::Dropped;
         }
         if count < 8 {
-            Keep::Whole
-        } else if count == 8 {
-            Keep::Empty
-        } else {
-            Keep::Dropped
+            return Keep::Whole;
         }
+        if count == 8 {
+            return Keep::Empty;
+        }
+        Keep::Dropped
     }
 }
