@@ -4,7 +4,8 @@ ghost use Rattle.std.specs.Prelude.{◌≤◌};
 use std::io;
 use std::io::{Read, Stdin};
 
-const ROOM: usize = 65536;
+// The most bytes of a line.
+pub(crate) const ROOM: usize = 65536;
 
 // The bytes that are read and not looked at yet, and the error of the first read that failed: nothing is read after it. An array and
 // how many of its bytes are held: a read writes behind these, where an `ArrayVec` lends no room.

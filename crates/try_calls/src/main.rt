@@ -26,6 +26,9 @@ mod fields;
 mod input;
 mod say;
 
+// The most bytes that a line lends: each takes a space and two digits of it.
+const MOST_LENT: usize = input::ROOM / 3;
+
 // How often the buffer is filled at most: a bound for the loop, which only an input of some gigabytes reaches.
 const TURNS: u32 = 65536;
 
@@ -57,8 +60,8 @@ fn run_line(out: &mut Stdout, line: &[u8]) -> io::Result<()> {
     out.write_all(name)?;
     let mut fields = Fields { rest: behind };
     if let Some(given) = Case::read(&mut fields) {
-        let mut lent = [0u8; 65536];
         // An array and how many of its bytes were read: a run has no other bound, and nothing here allocates.
+        let mut lent = [0u8; MOST_LENT];
         let n = words::bytes(fields.rest, &mut lent);
         if n * 3 == fields.rest.len() {
             return run_case(out, &given, &lent[..n]);
