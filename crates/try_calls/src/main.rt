@@ -26,7 +26,7 @@ mod fields;
 mod input;
 mod say;
 
-// The most bytes that a line lends: each takes a space and two digits of it.
+// No line lends more bytes: each takes a space and two digits of it.
 const MOST_LENT: usize = input::ROOM / 3;
 
 // How often the buffer is filled at most: a bound for the loop, which only an input of some gigabytes reaches.
@@ -60,7 +60,7 @@ fn run_line(out: &mut Stdout, line: &[u8]) -> io::Result<()> {
     out.write_all(name)?;
     let mut fields = Fields { rest: behind };
     if let Some(given) = Case::read(&mut fields) {
-        // An array and how many of its bytes were read: a run has no other bound, and nothing here allocates.
+        // An array and how many of its bytes were read: nothing here allocates.
         let mut lent = [0u8; MOST_LENT];
         let n = words::bytes(fields.rest, &mut lent);
         if n * 3 == fields.rest.len() {
